@@ -1,0 +1,21 @@
+use mathlib.Core.Path.{_≡_, sym, ap, _∙_}
+use Prim.Native.Nat.{_<_}
+use lib.ListN.{length}
+use borrow.Author.Needs.{needs}
+use Rattle.compare.specs.Cells.{inCell}
+use Rattle.compare.proofs.Reached.{occupied-at-corner, occupied-nowhere}
+use Rattle.compare.proofs.cells.is_occupied.Needs as need
+
+pub returns-in-rest : need.returns-in-rest
+returns-in-rest g c =
+    let m = g .R·Family in
+    let none : length (c .args .cell .now) ≡ 0 = search needs in
+    sym (occupied-nowhere (m .first) (m .axes) (m .holds) (m .shifted) (c .args .cell .now) none)
+
+pub returns-then-is-in-cell : need.returns-then-is-in-cell
+returns-then-is-in-cell g c =
+    let m = g .R·Family in
+    let cell = c .args .cell .now in
+    let some : 0 < length cell = search needs in
+    let held = sym (ap (inCell (m .holds) cell) (c .near-corner .ensures)) ∙ sym (c .is-in-cell .ensures) ∙ c .if-is-in-cell .taken in
+    c .if-is-in-cell .taken ∙ sym (occupied-at-corner (m .first) (m .axes) (m .holds) (m .shifted) cell (c .own-item .result) some (c .own-item .is) held)

@@ -1,0 +1,3 @@
+// Two sealed filters compared: the region list, the rows that they treat unlike, and the rows' holes.
+mod cells;
+mod regions;
