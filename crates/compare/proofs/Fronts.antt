@@ -4,10 +4,11 @@ use mathlib.Core.List.{List, [], _∷_, _++_, append-assoc}
 use Prim.Native.Nat.{ℕ, _+_, _-_, _≤_, _<_}
 use native.Mathlib.Numerals.{add-one}
 use native.Mathlib.Omega.{arith}
-use lib.ListN.{length, take, drop, getD, set, length-append, length-drop, length-take, take-append-drop}
+use lib.ListN.{length, take, drop, getD, set, replicate, length-append, length-drop, length-take, take-append-drop}
 use Rattle.std.specs.declared.option.Option.{Option}
 use Rattle.std.specs.declared.option.Option.the-variants.{Some, None}
-use Rattle.std.proofs.shelf.Lists.{take-at, drop-at, drop-drop, take-append-le, getD-append-left, set-split, take-all}
+use Rattle.std.proofs.shelf.Lists.{take-at, drop-at, drop-drop, take-append-le, getD-append-left, set-split, take-all, length-replicate, getD-replicate}
+use borrow.Rule.Slice.PartMut.{putMid, postOf}
 use Rattle.compare.specs.Written.{Written}
 use Rattle.std.specs.Iters.{folded}
 use Rattle.std.proofs.shelf.Sums.{folded-more}
@@ -83,3 +84,15 @@ module _ {X : Type 0} where
 
     pub written-stop : (i : ℕ) (new : List X) → Written old (folded f start (take i ys)) None new → Written old (folded f start ys) None new
     written-stop i new w = written-short old _ _ new w (folded-front f adds start i ys)
+
+  -- the first element, and behind it a part that was lent and written
+  pub written-behind : (places part : List X) (x : X) (n k : ℕ) → 0 < length places → x ≡ getD places 0 x → n ≤ length part → take (n + 1) (putMid 1 k places part) ≡ x ∷ take n part
+  written-behind [] part x n k some e fits = absurd (omega arith)
+  written-behind (y ∷ ys) part x n k some e fits =
+      ap (λ m. take m (y ∷ (part ++ postOf 1 k (y ∷ ys)))) (add-one n) ∙ ap (λ l. y ∷ l) (take-append-le n part (postOf 1 k (y ∷ ys)) fits) ∙ ap (λ z. z ∷ take n part) (sym e)
+
+  -- the same where the places were filled with one value, as a lent part reads them
+  pub filled-behind : (size : ℕ) (part : List X) (x : X) (n k : ℕ) → 0 < size → n ≤ length part → take (n + 1 - 0) (drop 0 (putMid 1 k (replicate size x) part)) ≡ x ∷ take n part
+  filled-behind size part x n k some fits =
+      let long = length-replicate size x in
+      lent-front (n + 1) (putMid 1 k (replicate size x) part) ∙ written-behind (replicate size x) part x n k (omega arith) (sym (getD-replicate size 0 x x some)) fits

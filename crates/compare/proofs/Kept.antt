@@ -5,11 +5,10 @@ use mathlib.Core.List.{List, [], _∷_, _++_, append-nil, append-assoc}
 use Prim.Native.Nat.{ℕ, suc, _+_, _≤_, _<_}
 use native.Mathlib.Numerals.{add-one}
 use native.Mathlib.Omega.{arith}
-use lib.ListN.{length, take, drop, getD, set}
+use lib.ListN.{length, take, drop, getD, set, length-drop}
 use Rattle.std.specs.shelf.Lists.{kept-by}
-use Rattle.std.proofs.shelf.Lists.{take-more-set, drop-more, drop-all}
-use Rattle.compare.specs.declared.cells.Listed.{Listed}
-use Rattle.compare.specs.Cells.{numbered}
+use Rattle.std.proofs.shelf.Lists.{take-more-set, drop-more, drop-all, drop-drop}
+use Rattle.compare.specs.Cells.{numbers}
 
 module _ {X : Type 0} (p : X → Bool) where
   -- the front that is kept, and what is kept of the rest, are all that is kept
@@ -41,9 +40,13 @@ module _ {X : Type 0} (p : X → Bool) where
 pub rest-at : {X : Type 0} (xs : List X) (i : ℕ) (x : X) → i < length xs → x ≡ getD xs i x → drop i xs ≡ x ∷ drop (i + 1) xs
 rest-at xs i x h e = drop-more xs i x h ∙ ap (λ y. y ∷ drop (i + 1) xs) (sym e)
 
--- the same with numbers
-pub numbered-at : {R : Type 0} (xs : List R) (i : ℕ) (x : R) → i < length xs → x ≡ getD xs i x → numbered i (drop i xs) ≡ record { number = i; region = x } ∷ numbered (i + 1) (drop (i + 1) xs)
-numbered-at xs i x h e = ap (numbered i) (rest-at xs i x h e) ∙ ap (λ k. record { number = i; region = x } ∷ numbered k (drop (i + 1) xs)) (sym (add-one i))
+numbers-on : {X : Type 0} (xs : List X) (i : ℕ) (rest : List X) → drop i xs ≡ rest → i < length xs → numbers i rest ≡ i ∷ numbers (suc i) (drop (i + 1) xs)
+numbers-on xs i [] e h = absurd (omega (arith, ap length e, length-drop i xs))
+numbers-on xs i (x ∷ more) e h = ap (λ l. i ∷ numbers (suc i) l) (sym (ap (drop 1) e) ∙ drop-drop 1 i xs)
 
-pub numbered-ends : {R : Type 0} (xs : List R) (i : ℕ) → length xs ≤ i → numbered i (drop i xs) ≡ []
-numbered-ends xs i h = ap (numbered i) (drop-all i xs h)
+-- the same with numbers
+pub numbers-at : {X : Type 0} (xs : List X) (i : ℕ) → i < length xs → numbers i (drop i xs) ≡ i ∷ numbers (i + 1) (drop (i + 1) xs)
+numbers-at xs i h = numbers-on xs i (drop i xs) refl h ∙ ap (λ k. i ∷ numbers k (drop (i + 1) xs)) (sym (add-one i))
+
+pub numbers-end : {X : Type 0} (xs : List X) (i : ℕ) → length xs ≤ i → numbers i (drop i xs) ≡ []
+numbers-end xs i h = ap (numbers i) (drop-all i xs h)

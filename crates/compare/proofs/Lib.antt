@@ -3,5 +3,8 @@ pub mod Fronts
 pub mod Gathered
 pub mod Growth
 pub mod Kept
+pub mod LaidOut
 pub mod Puts
+pub mod Ranked
 pub mod Reached
+pub mod RowFound

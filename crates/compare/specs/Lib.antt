@@ -1,3 +1,4 @@
 pub mod Cells
 pub mod Regions
+pub mod Rows
 pub mod Written

@@ -7,6 +7,7 @@ use native.Mathlib.Nat.{add-suc}
 use native.Mathlib.Omega.{arith}
 use lib.ListN.{length, getD, drop}
 use Rattle.std.proofs.shelf.Lists.{drop-more, drop-all}
+use Rattle.std.proofs.shelf.Tests.{cond-both}
 use Rattle.family.specs.Lists.{anyOf, firstWhere}
 
 module _ {X : Type 0} (p : X → Bool) (xs : List X) (i : ℕ) where
@@ -35,3 +36,9 @@ module _ {X : Type 0} (p : X → Bool) (xs : List X) (i : ℕ) where
 
   pub first-ends : length xs ≤ i → i + firstWhere p (drop i xs) ≡ i
   first-ends h = let z : firstWhere p (drop i xs) ≡ 0 = ap (firstWhere p) (drop-all i xs h) in omega arith
+
+pub first-bound : {X : Type 0} (p : X → Bool) (xs : List X) → firstWhere p xs ≤ length xs
+first-bound p [] = omega arith
+first-bound p (x ∷ xs) =
+    let more = first-bound p xs in
+    cond-both (p x) 0 (suc (firstWhere p xs)) (λ n. n ≤ suc (length xs)) (λ _. omega arith) (λ _. omega arith)

@@ -1,3 +1,4 @@
 pub mod Actions
+pub mod Clauses
 pub mod Families
 pub mod Lists

@@ -1,6 +1,10 @@
 // First-match filters in lent clause memory: drafts that are edited, sealed filters that are matched and compared.
+mod draft;
+mod places;
 mod sealed;
 mod table;
 
+pub use draft::Draft;
+pub use places::insert_at;
 pub use sealed::Sealed;
 pub use table::Table;

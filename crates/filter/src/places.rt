@@ -1,0 +1,22 @@
+// A list kept at the front of lent places: one element more at a place, the others in their order.
+ghost use mathlib.Core.Path.{_≡_};
+ghost use mathlib.Core.Bool.{cond, _&&_};
+ghost use mathlib.Core.List.{_++_};
+ghost use Prim.Native.Nat.{_+_};
+ghost use lib.Dec.{leb, ltb};
+ghost use lib.ListN.{length, take, drop};
+ghost use Rattle.std.specs.shelf.Lists.{inserted};
+
+// Puts an element before the one at a place, or at the end of the first `count`; false where there is no such place.
+pub fn insert_at<T: Copy>(places: &mut [T], count: usize, place: usize, x: T) -> bool
+    ensures answer { λ r. ⌜ r ≡ (leb place count && ltb count (length (now (places .entry)))) ⌝ }
+    ensures memory { λ r. ⌜ now (places .exit) ≡ cond r (inserted (take count (now (places .entry))) place x ++ drop (count + 1) (now (places .entry))) (now (places .entry)) ⌝ }
+{
+    if place > count || count >= places.len() {
+        return false;
+    }
+    places[count] = x;
+    let part = &mut places[place..count + 1];
+    part.rotate_right(1);
+    true
+}
