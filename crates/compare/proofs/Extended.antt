@@ -9,6 +9,9 @@ use Rattle.std.specs.declared.option.Option.{Option}
 use Rattle.std.specs.declared.option.Option.the-variants.{Some, None}
 use Rattle.std.specs.Iters.{folded}
 use Rattle.family.specs.declared.clauses.Clause.{Clause}
+use Rattle.compare.specs.declared.rows.Row.{Row}
+use Rattle.compare.specs.Cells.{regionAt, holesOf}
+use Rattle.compare.specs.Rows.{addHoles}
 use Rattle.compare.specs.Regions.{stands, put, putClauses, putMeet, putMeets, grown}
 
 abbrev pub Extends : {X : Type 0} → List X → List X → Type 0
@@ -61,3 +64,6 @@ module _ {R : Type 0} (inside : R → R → Bool) where
     pub grown-extends : (n a : ℕ) (xs : List R) → Extends xs (grown inside meet n a xs)
     grown-extends zero a xs = extends-itself xs
     grown-extends (suc n) a xs = grown-from n a xs (drop a xs) (grown-extends n (suc a))
+
+pub addHoles-extends : {R : Type 0} (inside : R → R → Bool) (whole : R) (xs : List R) (so-far : List ℕ) (row : Row) → Extends so-far (addHoles inside whole xs so-far row)
+addHoles-extends inside whole xs so-far row = (holesOf inside whole xs (regionAt whole xs (row .region)), refl)

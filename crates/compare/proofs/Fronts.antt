@@ -9,6 +9,7 @@ use Rattle.std.specs.declared.option.Option.{Option}
 use Rattle.std.specs.declared.option.Option.the-variants.{Some, None}
 use Rattle.std.proofs.shelf.Lists.{take-at, drop-at, drop-drop, take-append-le, getD-append-left, set-split, take-all, length-replicate, getD-replicate}
 use borrow.Rule.Slice.PartMut.{putMid, postOf}
+use Rattle.std.proofs.shelf.Parts.{putMid-paste}
 use Rattle.compare.specs.Written.{Written}
 use Rattle.std.specs.Iters.{folded}
 use Rattle.std.proofs.shelf.Sums.{folded-more}
@@ -96,3 +97,10 @@ module _ {X : Type 0} where
   filled-behind size part x n k some fits =
       let long = length-replicate size x in
       lent-front (n + 1) (putMid 1 k (replicate size x) part) ∙ written-behind (replicate size x) part x n k (omega arith) (sym (getD-replicate size 0 x x some)) fits
+
+  -- a list copied into a part that was lent, behind what stands before it
+  pub written-part : (old part xs : List X) (from n : ℕ) → from + n ≤ length old → part ≡ xs → n ≡ length xs → Written old (take from old ++ xs) (Some (from + n)) (putMid from (from + n - from) old part)
+  written-part old part xs from n fits e long =
+      let size : n ≡ from + n - from = omega arith in
+      let front = length-take from old in
+      (omega (arith, length-append (take from old) xs), fits, putMid-paste from (from + n - from) old part xs n e size long ∙ ap (λ l. (take from old ++ l) ++ drop (from + n) old) (take-all n xs (omega arith)))

@@ -1,13 +1,13 @@
 -- The rows of a comparison: the cells that hold a point and whose two actions are not alike.
 use mathlib.Core.Bool.{Bool, cond, _&&_, _||_}
-use mathlib.Core.List.{List, [], _∷_}
+use mathlib.Core.List.{List, [], _∷_, _++_}
 use Prim.Native.Nat.{ℕ, _+_}
 use lib.Dec.{ltb, eqb}
 use lib.ListN.{length}
 use Rattle.std.specs.declared.option.Option.{Option}
 use Rattle.std.specs.declared.option.Option.the-variants.{Some, None}
 use Rattle.std.specs.Iters.{folded}
-use Rattle.std.specs.shelf.Lists.{inserted, joined}
+use Rattle.std.specs.shelf.Lists.{inserted}
 use Rattle.family.specs.Clauses.{actionAt}
 use Rattle.family.specs.Lists.{firstWhere}
 use Rattle.family.specs.declared.clauses.Clause.{Clause}
@@ -66,5 +66,8 @@ module _ {R P A : Type 0} (whole : R) (first : P) (axes : ℕ) (holds : R → P 
     rowsOf = laid 0 rowsFound
 
 -- the holes of all rows, one row after the other
+abbrev pub addHoles : {R : Type 0} → (R → R → Bool) → R → List R → List ℕ → Row → List ℕ
+addHoles inside whole xs so-far row = so-far ++ holesOf inside whole xs (regionAt whole xs (row .region))
+
 abbrev pub holesOfRows : {R : Type 0} → (R → R → Bool) → R → List R → List Row → List ℕ
-holesOfRows inside whole xs rows = joined (λ row. holesOf inside whole xs (regionAt whole xs (row .region))) rows
+holesOfRows inside whole xs rows = folded (addHoles inside whole xs) [] rows

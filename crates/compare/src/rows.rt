@@ -5,9 +5,11 @@ ghost use mathlib.Core.List.{_++_};
 ghost use Prim.Native.Nat.{min, _+_, _-_, _^_, _≤_, _<_};
 ghost use lib.ListN.{length, take, drop};
 ghost use Rattle.std.specs.shelf.Lists.{sumBy};
-ghost use Rattle.std.specs.declared.option.Option.{Option};
+ghost use Rattle.std.specs.declared.option.Option.the-variants.{Some};
 ghost use Rattle.family.specs.Clauses.{actionAt};
 ghost use Rattle.family.specs.Lists.{firstWhere};
+ghost use Rattle.compare.specs.Cells.{holesOf};
+ghost use Rattle.compare.specs.Written.{Written};
 ghost use Rattle.compare.specs.Rows.{placeOf, precedes, ranked, rankedSome, laid, rowAt, rowsFound, rowsOf, holesOfRows};
 use crate::cells::is_occupied;
 use crate::cells::region_at;
@@ -156,5 +158,30 @@ pub(crate) fn lay_rows(found: &[Row], rows: &mut [Row])
             number: row.number,
         };
         start += row.number;
+    }
+}
+
+// Writes a region's holes from a place on, and answers the place behind them.
+fn copy_holes<R: Family>(listed: &[R], region: R, holes: &mut [usize], at: usize) -> usize
+    requires listed { ⌜ length (now listed) ≤ 1024 ⌝ }
+    requires fits { ⌜ at + length (holesOf inside whole (now listed) region) ≤ length (now holes) ⌝ }
+    ensures { λ r. ⌜ Written (now (holes .entry)) (take at (now (holes .entry)) ++ holesOf inside whole (now (listed .entry)) region) (Some r) (now (holes .exit)) ⌝ }
+{
+    let mut own = [0; 1024];
+    let count = write_holes_of(listed, region, &mut own);
+    let part = &mut holes[at..at + count];
+    part.copy_from_slice(&own[0..count]);
+    at + count
+}
+
+// Writes the holes of all rows, one row after the other.
+pub(crate) fn write_holes<R: Family>(listed: &[R], rows: &[Row], holes: &mut [usize])
+    requires listed { ⌜ length (now listed) ≤ 1024 ⌝ }
+    requires fits { ⌜ length (holesOfRows inside whole (now listed) (now rows)) ≤ length (now holes) ⌝ }
+    ensures { λ _. ⌜ Written (now (holes .entry)) (holesOfRows inside whole (now (listed .entry)) (now (rows .entry))) (Some (length (holesOfRows inside whole (now (listed .entry)) (now (rows .entry))))) (now (holes .exit)) ⌝ }
+{
+    let mut at = 0;
+    for row in rows {
+        at = copy_holes(listed, region_at(listed, row.region), holes, at);
     }
 }
