@@ -4,3 +4,5 @@ pub mod Prefixes
 pub mod SameValues
 pub mod MadeRanges
 pub mod MadeRoutes
+pub mod Actions
+pub mod Verdicts

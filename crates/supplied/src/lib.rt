@@ -6,7 +6,9 @@ mod ranges;
 mod routes;
 
 pub use actions::RouteAction;
+pub use actions::RouteActionKind;
 pub use actions::Verdict;
+pub use actions::VerdictKind;
 pub use errors::MakeError;
 pub use ranges::PrefixRange;
 pub use routes::Route;
