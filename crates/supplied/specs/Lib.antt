@@ -14,5 +14,8 @@ pub mod PrefixValues
 pub mod PrefixRanges
 pub mod MadeRanges
 pub mod MadeRoutes
+pub mod Spans
+pub mod SpanLaws
+pub mod MadeSpans
 pub mod Actions
 pub mod Verdicts

@@ -4,6 +4,7 @@ mod errors;
 mod prefixes;
 mod ranges;
 mod routes;
+mod spans;
 
 pub use actions::RouteAction;
 pub use actions::RouteActionKind;
@@ -13,3 +14,10 @@ pub use errors::MakeError;
 pub use ranges::PrefixRange;
 pub use ranges::PrefixRangeFamily;
 pub use routes::Route;
+pub use spans::AddressSpan;
+pub use spans::AsSpan;
+pub use spans::PortSpan;
+pub use spans::ProtocolSpan;
+pub use spans::Span;
+pub use spans::SpanFamily;
+pub use spans::SpanPoint;
