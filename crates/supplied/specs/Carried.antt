@@ -1,15 +1,14 @@
 -- A family carried over to types with the same regions and the same points: its laws hold there too.
 use mathlib.Core.Path.{_≡_, refl, sym, ap, _∙_}
 use mathlib.Core.Bool.{Bool, true, false, _&&_}
-use mathlib.Core.List.{List, [], _∷_, map, List·Memᴰ, List·Memᴰ·head, List·Memᴰ·tail, List·Memᴰ·not-nil, List·Memᴰ·cases-cons, Memᴰ·map}
-use mathlib.Core.Logic.{_⊎_, ⊎-elim}
+use mathlib.Core.List.{List, [], _∷_, map}
 use Prim.Native.Nat.{ℕ, _+_}
 use native.Mathlib.Omega.{arith}
-use lib.ListN.{length, length-map}
 use Rattle.std.specs.declared.option.Option.{Option}
 use Rattle.std.specs.declared.option.Option.the-variants.{Some, None}
 use Rattle.family.specs.declared.edges.Edge.{Edge}
-use Rattle.family.specs.Families.{FamilyLaws, Choice, still, toward, moved, walked, FromList, AllFrom}
+use Rattle.family.specs.Families.{FamilyLaws, Choice, still, toward, moved, walked}
+use Rattle.supplied.specs.Walks.{seen, reached-through}
 
 abbrev pub mapped : {A B : Type 0} → (A → B) → Option A → Option B
 mapped f (Some a) = Some (f a)
@@ -44,35 +43,16 @@ module _ {R P S Q : Type 0} (regions : Same S R) (points : Same Q P) where
   abbrev pub carriedShifted : (P → ℕ → Edge → R → P) → Q → ℕ → Edge → S → Q
   carriedShifted shifted q axis e s = points .back (shifted (points .to q) axis e (regions .to s))
 
-  abbrev choiceBack : Choice R → Choice S
-  choiceBack still = still
-  choiceBack (toward e r) = toward e (regions .back r)
-
-  mem-back : (r : R) (ss : List S) → List·Memᴰ r (map (regions .to) ss) → List·Memᴰ (regions .back r) ss
-  mem-back r [] m = absurd (List·Memᴰ·not-nil m)
-  mem-back r (s ∷ ss) m =
-      let rest = mem-back r ss in
-      ⊎-elim (λ (e : r ≡ regions .to s). List·Memᴰ·head (ap (regions .back) e ∙ regions .here s))
-      (λ (m′ : List·Memᴰ r (map (regions .to) ss)). List·Memᴰ·tail (rest m′)) (List·Memᴰ·cases-cons m)
-
-  from-back : (ss : List S) (c : Choice R) → FromList (map (regions .to) ss) c → FromList ss (choiceBack c)
-  from-back ss still h = tt
-  from-back ss (toward e r) h = mem-back r ss h
-
-  all-back : (ss : List S) (cs : List (Choice R)) → AllFrom (map (regions .to) ss) cs → AllFrom ss (map choiceBack cs)
-  all-back ss [] h = tt
-  all-back ss (c ∷ cs) h = (from-back ss c (h .0), all-back ss cs (h .1))
-
   module _ (shifted : P → ℕ → Edge → R → P) where
-    moved-back : (q : Q) (axis : ℕ) (c : Choice R) → points .to (moved (carriedShifted shifted) q axis (choiceBack c)) ≡ moved shifted (points .to q) axis c
-    moved-back q axis still = refl
-    moved-back q axis (toward e r) =
-        points .there (shifted (points .to q) axis e (regions .to (regions .back r))) ∙ ap (shifted (points .to q) axis e) (regions .there r)
+    moved-to : (q : Q) (axis : ℕ) (c : Choice S) → points .to (moved (carriedShifted shifted) q axis c) ≡ moved shifted (points .to q) axis (seen (regions .to) c)
+    moved-to q axis still = refl
+    moved-to q axis (toward e s) = points .there (shifted (points .to q) axis e (regions .to s))
 
-    walked-back : (q : Q) (axis : ℕ) (cs : List (Choice R)) → points .to (walked (carriedShifted shifted) q axis (map choiceBack cs)) ≡ walked shifted (points .to q) axis cs
-    walked-back q axis [] = refl
-    walked-back q axis (c ∷ cs) =
-        walked-back (moved (carriedShifted shifted) q axis (choiceBack c)) (axis + 1) cs ∙ ap (λ (p : P). walked shifted p (axis + 1) cs) (moved-back q axis c)
+    walked-to : (q : Q) (axis : ℕ) (cs : List (Choice S)) → points .to (walked (carriedShifted shifted) q axis cs) ≡ walked shifted (points .to q) axis (map (seen (regions .to)) cs)
+    walked-to q axis [] = refl
+    walked-to q axis (c ∷ cs) =
+        walked-to (moved (carriedShifted shifted) q axis c) (axis + 1) cs
+        ∙ ap (λ (p : P). walked shifted p (axis + 1) (map (seen (regions .to)) cs)) (moved-to q axis c)
 
   module _ {whole : R} {first : P} {axes : ℕ} {holds : R → P → Bool} {inside : R → R → Bool} {meet : R → R → Option R} {shifted : P → ℕ → Edge → R → P} (laws : FamilyLaws whole first axes holds inside meet shifted) where
     at-point : (f : P → Bool) (q : P) → f (points .to (points .back q)) ≡ f q
@@ -96,12 +76,12 @@ module _ {R P S Q : Type 0} (regions : Same S R) (points : Same Q P) where
       axes-low = laws .axes-low;
       axes-high = laws .axes-high;
       other-axis = λ q axis e s h. ap (points .back) (laws .other-axis (points .to q) axis e (regions .to s) h) ∙ points .here q;
-      reached = λ few q ss. let (cs, n, all, same) = laws .reached few (points .to q) (map (regions .to) ss) in (
-        map choiceBack cs,
-        length-map cs choiceBack ∙ n,
-        all-back ss cs all,
+      reached = λ few q ss. let (cs, len, named, same) = reached-through laws (regions .to) few (points .to q) ss in (
+        cs,
+        len,
+        named,
         λ s m. ap (holds (regions .to s))
-            (walked-back shifted (points .back first) 1 cs ∙ ap (λ (p : P). walked shifted p 1 cs) (points .there first))
-            ∙ same (regions .to s) (Memᴰ·map (regions .to) m),
+            (walked-to shifted (points .back first) 1 cs ∙ ap (λ (p : P). walked shifted p 1 (map (seen (regions .to)) cs)) (points .there first))
+            ∙ same s m,
       );
     }

@@ -2,6 +2,7 @@ pub mod MakeErrors
 pub mod Making
 pub mod Edges
 pub mod Multiples
+pub mod Walks
 pub mod Carried
 pub mod Prefixes
 pub mod Ranges
@@ -17,5 +18,8 @@ pub mod MadeRoutes
 pub mod Spans
 pub mod SpanLaws
 pub mod MadeSpans
+pub mod Pairs
+pub mod PairShifts
+pub mod PairLaws
 pub mod Actions
 pub mod Verdicts

@@ -1,6 +1,7 @@
 // The families of regions and the action kinds that the product supplies.
 mod actions;
 mod errors;
+mod pairs;
 mod prefixes;
 mod ranges;
 mod routes;
@@ -11,6 +12,10 @@ pub use actions::RouteActionKind;
 pub use actions::Verdict;
 pub use actions::VerdictKind;
 pub use errors::MakeError;
+pub use pairs::Packet;
+pub use pairs::Pair;
+pub use pairs::PairFamily;
+pub use pairs::RouteWithOrigin;
 pub use ranges::PrefixRange;
 pub use ranges::PrefixRangeFamily;
 pub use routes::Route;
