@@ -137,10 +137,15 @@ module _ (W : ℕ) where
   pub length-below : (r : Range W) (e : Edge) (p : Point W) → shiftedLength r e (p .length) ≤ W
   length-below r e p = let h = edge-below (W + 1) (r .low) (r .high + 1) e (p .length) (omega (arith, r .order, r .width)) (omega (arith, p .width)) in omega arith
 
+  abbrev pub alongLength : Point W → Edge → Range W → Point W
+  alongLength p e r = cutTo (p .address) (shiftedLength r e (p .length)) (p .bound) (length-below r e p)
+
+  abbrev pub alongAddress : Point W → Edge → Range W → Point W
+  alongAddress p e r =
+      let far = r .address + 2 ^ (W - r .length) in
+      cutTo (shiftedAddress r e (p .address)) (p .length)
+      (edge-below (2 ^ W) (r .address) far e (p .address) (r .bound) (p .bound)) (p .width)
+
   -- axis 1 is the length, axis 2 the address
   abbrev pub rangeShifted : Point W → ℕ → Edge → Range W → Point W
-  rangeShifted p axis e r =
-      cond (eqb axis 1) (cutTo (p .address) (shiftedLength r e (p .length)) (p .bound) (length-below r e p))
-      (cond (eqb axis 2)
-      (cutTo (shiftedAddress r e (p .address)) (p .length)
-      (edge-below (2 ^ W) (r .address) (r .address + 2 ^ (W - r .length)) e (p .address) (r .bound) (p .bound)) (p .width)) p)
+  rangeShifted p axis e r = cond (eqb axis 1) (alongLength p e r) (cond (eqb axis 2) (alongAddress p e r) p)
