@@ -26,3 +26,6 @@ pub use spans::ProtocolSpan;
 pub use spans::Span;
 pub use spans::SpanFamily;
 pub use spans::SpanPoint;
+
+#[cfg(test)]
+mod tests;
