@@ -1,0 +1,4 @@
+pub mod FieldTurns
+pub mod Places
+pub mod Seen
+pub mod Spelled
