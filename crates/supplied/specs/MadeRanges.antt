@@ -11,7 +11,7 @@ use Rattle.std.specs.declared.result.Result.{Result}
 use Rattle.std.specs.declared.result.Result.the-variants.{Ok, Err}
 use Rattle.supplied.specs.Making.{unlessFault, orElse, passed, refused, made, faultless}
 use Rattle.supplied.specs.Prefixes.{isPrefix, prefix-bound, prefix-zeros, is-prefix}
-use Rattle.supplied.specs.SameValues.{same-range}
+use Rattle.supplied.specs.PrefixValues.{same-range}
 use Rattle.supplied.specs.declared.errors.MakeError.{MakeError}
 use Rattle.supplied.specs.declared.errors.MakeError.the-variants.{LengthAboveWidth, AddressBitAfterLength, LengthsOutOfOrder}
 use Rattle.supplied.specs.declared.ranges.PrefixRange.{PrefixRange}

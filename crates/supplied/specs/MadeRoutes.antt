@@ -11,7 +11,7 @@ use Rattle.std.specs.declared.result.Result.{Result}
 use Rattle.std.specs.declared.result.Result.the-variants.{Ok, Err}
 use Rattle.supplied.specs.Making.{unlessFault, orElse, passed, refused, made, faultless}
 use Rattle.supplied.specs.Prefixes.{bitsAfter, isPrefix, prefix-bound, prefix-zeros, is-prefix, no-prefix}
-use Rattle.supplied.specs.SameValues.{same-route}
+use Rattle.supplied.specs.PrefixValues.{same-route}
 use Rattle.supplied.specs.declared.errors.MakeError.{MakeError}
 use Rattle.supplied.specs.declared.errors.MakeError.the-variants.{LengthAboveWidth, AddressBitAfterLength}
 use Rattle.supplied.specs.declared.routes.Route.{Route}

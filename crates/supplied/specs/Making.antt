@@ -34,3 +34,24 @@ made None make x h same = ap Ok (same refl)
 pub faultless : {X : Type 0} (fault : Option MakeError) (make : fault ≡ None → X) (x : X) → unlessFault fault make ≡ Ok x → (n : fault ≡ None) × (make n ≡ x)
 faultless (Some d) make x h = let z : _≡_ {A = ℕ} 0 1 = cc in absurd (omega arith)
 faultless None make x h = (refl, cc)
+
+-- what is made where a test passes
+abbrev pub ifTrue : {X : Type 0} (b : Bool) → (b ≡ true → X) → Option X
+ifTrue true make = Some (make refl)
+ifTrue false make = None
+
+pub if-some : {X : Type 0} (b : Bool) (make : b ≡ true → X) (x : X) → ifTrue b make ≡ Some x → (e : b ≡ true) × (make e ≡ x)
+if-some true make x h = (refl, cc)
+if-some false make x h = let z : _≡_ {A = ℕ} 0 1 = cc in absurd (omega arith)
+
+pub if-none : {X : Type 0} (b : Bool) (make : b ≡ true → X) → ifTrue b make ≡ None → b ≡ false
+if-none true make h = cc
+if-none false make h = refl
+
+pub some-if : {X : Type 0} (b : Bool) (make : b ≡ true → X) (x : X) → b ≡ true → ((e : b ≡ true) → make e ≡ x) → ifTrue b make ≡ Some x
+some-if true make x h same = ap Some (same refl)
+some-if false make x h same = cc
+
+pub none-if : {X : Type 0} (b : Bool) (make : b ≡ true → X) → b ≡ false → ifTrue b make ≡ None
+none-if true make h = cc
+none-if false make h = refl

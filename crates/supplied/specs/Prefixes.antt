@@ -1,13 +1,25 @@
 -- Addresses of W bits and the prefixes that they begin with.
-use mathlib.Core.Path.{_≡_}
-use Prim.Native.Nat.{ℕ, _-_, _%_, _^_, _<_}
+use mathlib.Core.Path.{_≡_, sym, ap, _∙_}
+use Prim.Native.Nat.{ℕ, _+_, _-_, _*_, _/_, _%_, _^_, _≤_, _<_}
 use mathlib.Core.Bool.{Bool, true, false, _&&_}
+use native.Mathlib.Nat.{div-add-mod, div-add-mod', mod-lt}
+use native.Mathlib.Omega.{arith}
 use lib.Dec.{ltb, eqb}
+use lib.Pow.{pow-pos}
+use Rattle.std.proofs.shelf.Bits.{div-mul-add}
 use Rattle.std.proofs.shelf.Tests.{ltb-true, eqb-true, and-parts, and-from, and-right, lt-ltb, eq-eqb, ne-eqb}
+
+-- the first n bits of the address
+abbrev pub firstBits : (W n address : ℕ) → ℕ
+firstBits W n address = address / 2 ^ (W - n)
 
 -- the bits of the address after the first n
 abbrev pub bitsAfter : (W n address : ℕ) → ℕ
 bitsAfter W n address = address % 2 ^ (W - n)
+
+-- two addresses agree over the first n bits
+abbrev pub agree : (W n x y : ℕ) → Bool
+agree W n x y = eqb (firstBits W n x) (firstBits W n y)
 
 -- an address of W bits, none of them set after the first n
 abbrev pub isPrefix : (W n address : ℕ) → Bool
@@ -29,3 +41,24 @@ module _ (W n address : ℕ) where
   pub no-prefix : (bitsAfter W n address ≡ 0 → ⊥) → isPrefix W n address ≡ false
   no-prefix ne =
       and-right (ltb address (2 ^ W)) (eqb (bitsAfter W n address) 0) (ne-eqb (bitsAfter W n address) 0 ne)
+
+-- The addresses that agree with a prefix over its n bits lie in one interval.
+module _ (W n address x : ℕ) (zeros : bitsAfter W n address ≡ 0) where
+  pub agree-from : agree W n x address ≡ true → address ≤ x
+  agree-from h =
+      let s = 2 ^ (W - n) in
+      let e = eqb-true (x / s) (address / s) h in
+      omega (arith, div-add-mod x s, div-add-mod address s, ap (λ (k : ℕ). s * k) e)
+
+  pub agree-upto : agree W n x address ≡ true → x < address + 2 ^ (W - n)
+  agree-upto h =
+      let s = 2 ^ (W - n) in
+      let e = eqb-true (x / s) (address / s) h in
+      omega (arith, div-add-mod x s, div-add-mod address s, ap (λ (k : ℕ). s * k) e, mod-lt x (pow-pos (W - n)))
+
+  pub agreeing : address ≤ x → x < address + 2 ^ (W - n) → agree W n x address ≡ true
+  agreeing h k =
+      let s = 2 ^ (W - n) in
+      let e : address / s * s + (x - address) ≡ x = omega (arith, div-add-mod' address s) in
+      let below : x - address < s = omega arith in
+      eq-eqb (x / s) (address / s) (ap (λ (y : ℕ). y / s) (sym e) ∙ div-mul-add (address / s) s (x - address) below)

@@ -11,4 +11,5 @@ pub use actions::Verdict;
 pub use actions::VerdictKind;
 pub use errors::MakeError;
 pub use ranges::PrefixRange;
+pub use ranges::PrefixRangeFamily;
 pub use routes::Route;

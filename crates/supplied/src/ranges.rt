@@ -3,6 +3,10 @@ ghost use mathlib.Core.Path.{_≡_};
 ghost use Prim.Native.Nat.{_-_, _%_, _^_, _<_, _≤_};
 
 mod making;
+mod parts;
+mod questions;
+
+pub use questions::PrefixRangeFamily;
 
 #[derive(Clone, Copy)]
 pub struct PrefixRange {
