@@ -40,7 +40,15 @@ fieldsOf taken (place ∷ places) numbers bytes = do
   (more, rest) ← taken numbers place bytes
   fieldsOf taken places more rest
 
--- what is made of the numbers, or the rule that they break, told at the record's map
+-- a map without an undefined bit, and the numbers of its fields
+abbrev pub numbersOf : {N X : Type 0} → LayoutOf N X → List ℕ → Read (ℕ × N)
+numbersOf layout bytes = do
+  (map, rest) ← fieldOf 1 bytes
+  cond (layout .defined map) (do
+    (numbers, behind) ← fieldsOf (layout .taken) (placesOf (layout .fieldBits map)) (layout .absent) rest
+    Ok ((map, numbers), behind)) (Err (faultAt UndefinedBit bytes))
+
+-- what the numbers make, or the rule that they break, told at the record's map
 abbrev pub madeOf : {X : Type 0} → Result X MakeError → List ℕ → List ℕ → Read X
 madeOf (Ok x) bytes rest = Ok (x, rest)
 madeOf (Err cause) bytes rest = Err (faultAt (BrokenRule cause) bytes)
@@ -48,7 +56,5 @@ madeOf (Err cause) bytes rest = Err (faultAt (BrokenRule cause) bytes)
 -- first the map is tested, then each field is read, then the record is made
 abbrev pub recordOf : {N X : Type 0} → LayoutOf N X → List ℕ → Read X
 recordOf layout bytes = do
-  (map, rest) ← fieldOf 1 bytes
-  cond (layout .defined map) (do
-    (numbers, behind) ← fieldsOf (layout .taken) (placesOf (layout .fieldBits map)) (layout .absent) rest
-    madeOf (layout .made map numbers) bytes behind) (Err (faultAt UndefinedBit bytes))
+  (told, rest) ← numbersOf layout bytes
+  madeOf (layout .made (told .0) (told .1)) bytes rest

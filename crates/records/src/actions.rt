@@ -1,11 +1,15 @@
 // The record of a route action: reject, or accept with numbers that may be absent.
 ghost use mathlib.Core.Path.{_≡_};
 ghost use Rattle.records.specs.ActionRecords.{actionLayout};
+ghost use Rattle.records.specs.Layouts.{recordOf};
 use crate::faults::RecordFault;
 use crate::fields::read_u32;
 use crate::layouts::Layout;
+use crate::layouts::read_record;
+use crate::recorded::RecordedAction;
 use supplied::MakeError;
 use supplied::RouteAction;
+use supplied::RouteActionKind;
 
 #[derive(Clone, Copy)]
 pub struct ActionNumbers {
@@ -59,5 +63,13 @@ pub impl Layout for ActionNumbers as ActionLayout {
             preference: self.preference,
             med: self.med,
         })
+    }
+}
+
+pub impl RecordedAction for RouteAction as RouteActionRecord {
+    ghost reads = { recordOf actionLayout };
+
+    fn read(bytes: &[u8]) -> (Result<RouteAction, RecordFault>, &[u8]) {
+        read_record::<ActionNumbers>(bytes)
     }
 }

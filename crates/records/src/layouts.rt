@@ -2,8 +2,8 @@
 ghost use mathlib.Core.Path.{_≡_};
 ghost use lib.Count.{ones};
 ghost use lib.ListN.{length};
-ghost use Rattle.records.specs.Layouts.{LayoutOf, placesOf, fieldsOf, recordOf};
-ghost use Rattle.records.specs.Reading.{seen};
+ghost use Rattle.records.specs.Layouts.{LayoutOf, placesOf, fieldsOf, numbersOf, recordOf};
+ghost use Rattle.records.specs.Reading.{seen, outcomeOf, restOf};
 use crate::faults::FaultKind;
 use crate::faults::RecordFault;
 use crate::fields::read_u8;
@@ -52,16 +52,31 @@ fn read_fields<L: Layout>(map: u8, bytes: &[u8]) -> Result<(L, &[u8]), RecordFau
     Ok((numbers, rest))
 }
 
-pub fn read_record<L: Layout>(bytes: &[u8]) -> Result<(L::Made, &[u8]), RecordFault>
-    ensures { λ r. ⌜ seen r ≡ recordOf (L·Layout .layout) (now (bytes .entry)) ⌝ }
+// A map without an undefined bit, and the numbers of its fields.
+fn read_numbers<L: Layout>(bytes: &[u8]) -> Result<((u8, L), &[u8]), RecordFault>
+    ensures { λ r. ⌜ seen r ≡ numbersOf (L·Layout .layout) (now (bytes .entry)) ⌝ }
 {
     let (map, rest) = read_u8(bytes)?;
     if !L::is_defined(map) {
         return Err(RecordFault::at(FaultKind::UndefinedBit, bytes));
     }
-    let (numbers, behind) = read_fields::<L>(L::field_bits(map), rest)?;
-    match numbers.make(map) {
-        Ok(made) => Ok((made, behind)),
-        Err(cause) => Err(RecordFault::at(FaultKind::BrokenRule(cause), bytes)),
+    let (numbers, rest) = read_fields::<L>(L::field_bits(map), rest)?;
+    Ok(((map, numbers), rest))
+}
+
+// A record, and the bytes behind it; a fault takes none of the bytes.
+pub fn read_record<L: Layout>(bytes: &[u8]) -> (Result<L::Made, RecordFault>, &[u8])
+    ensures outcome { λ r. ⌜ r .0 ≡ outcomeOf (recordOf (L·Layout .layout) (now (bytes .entry))) ⌝ }
+    ensures rest { λ r. ⌜ now (r .1) ≡ restOf (now (bytes .entry)) (recordOf (L·Layout .layout) (now (bytes .entry))) ⌝ }
+{
+    match read_numbers::<L>(bytes) {
+        Ok(((map, numbers), rest)) => match numbers.make(map) {
+            Ok(made) => (Ok(made), rest),
+            Err(cause) => {
+                let fault = RecordFault::at(FaultKind::BrokenRule(cause), bytes);
+                (Err(fault), bytes)
+            }
+        },
+        Err(fault) => (Err(fault), bytes),
     }
 }

@@ -2,12 +2,17 @@
 mod actions;
 mod faults;
 mod fields;
+mod files;
 mod layouts;
 mod ranges;
+mod recorded;
 
+pub use actions::RouteActionRecord;
 pub use faults::Fault;
 pub use faults::FaultKind;
 pub use faults::Part;
 pub use faults::RecordFault;
-pub use layouts::Layout;
-pub use layouts::read_record;
+pub use files::read_file;
+pub use ranges::PrefixRangeRecord;
+pub use recorded::Recorded;
+pub use recorded::RecordedAction;

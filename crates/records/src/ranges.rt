@@ -1,12 +1,16 @@
 // The record of a prefix range: its address and its three lengths.
 ghost use mathlib.Core.Path.{_≡_};
+ghost use Rattle.records.specs.Layouts.{recordOf};
 ghost use Rattle.records.specs.RangeRecords.{rangeLayout};
 use crate::faults::RecordFault;
 use crate::fields::given_u8;
 use crate::fields::given_u32;
 use crate::layouts::Layout;
+use crate::layouts::read_record;
+use crate::recorded::Recorded;
 use supplied::MakeError;
 use supplied::PrefixRange;
+use supplied::PrefixRangeFamily;
 
 // The numbers so far: a field not yet read stands at its absent value.
 #[derive(Clone, Copy)]
@@ -77,5 +81,13 @@ pub impl Layout for RangeNumbers as RangeLayout {
 
     fn make(self, _map: u8) -> Result<PrefixRange, MakeError> {
         PrefixRange::new(self.address, self.length, self.low, self.high)
+    }
+}
+
+pub impl Recorded for PrefixRange as PrefixRangeRecord {
+    ghost reads = { recordOf rangeLayout };
+
+    fn read(bytes: &[u8]) -> (Result<PrefixRange, RecordFault>, &[u8]) {
+        read_record::<RangeNumbers>(bytes)
     }
 }
