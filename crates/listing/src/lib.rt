@@ -1,0 +1,3 @@
+// The printed text of a comparison: its rows, or which load or comparison was declined.
+mod buffers;
+mod octets;
