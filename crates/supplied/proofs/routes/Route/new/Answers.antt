@@ -1,0 +1,14 @@
+-- Each refusal is the first fault, and what is made has the numbers that were given.
+use native.Mathlib.Omega.{arith}
+use mathlib.Core.Path.{sym}
+use Rattle.supplied.specs.MadeRoutes.{route-refused, route-made}
+use Rattle.supplied.proofs.routes.Route.new.Needs as need
+
+pub returns-then-length-gt32 : need.returns-then-length-gt32
+returns-then-length-gt32 c = sym (route-refused _ _ _ (grind arith))
+
+pub returns-then-bits-after-ne0 : need.returns-then-bits-after-ne0
+returns-then-bits-after-ne0 c = sym (route-refused _ _ _ (grind arith))
+
+pub returns : need.returns
+returns c = sym (route-made _)
