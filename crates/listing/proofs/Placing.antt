@@ -1,5 +1,5 @@
 -- Texts put into a buffer, one behind the other.
-use mathlib.Core.Path.{_≡_, refl, sym, ap, _∙_}
+use mathlib.Core.Path.{_≡_, refl, sym, ap, subst, _∙_}
 use mathlib.Core.List.{List, [], _∷_, _++_, append-assoc}
 use Prim.Native.Nat.{ℕ, _+_, _-_, _≤_, _<_}
 use native.Mathlib.Nat.{add-assoc, add-zero}
@@ -51,20 +51,27 @@ module _ (o : List ℕ) (at : ℕ) (s : List ℕ) (h : Fits o at s) where
   over-over t = rw (take-over, drop-over (length t)) (simp (append-assoc, length-append, add-assoc))
 
 -- what is left of a text still fits once its front stands
-pub fits-front : (o : List ℕ) (at : ℕ) (s t : List ℕ) → Fits o at (s ++ t) → Fits o at s
-fits-front o at s t h = omega (arith, simp length-append at h)
+pub fits-front : {o : List ℕ} {at : ℕ} (s t : List ℕ) → Fits o at (s ++ t) → Fits o at s
+fits-front s t h = record { room = omega (arith, simp length-append at (h .room)) }
 
 pub fits-rest : {o o′ : List ℕ} {at at′ : ℕ} {s : List ℕ} (t : List ℕ) → Placed o at s at′ o′ → Fits o at (s ++ t) → Fits o′ at′ t
 fits-rest {o} {o′} {at} {at′} {s} t p h =
     let l : length o′ ≡ length o = ap length (p .bytes) ∙ length-over o at s (p .fits) in
-    omega (arith, p .ends, simp length-append at h)
+    record { room = omega (arith, p .ends, simp length-append at (h .room)) }
 
 -- two texts put one behind the other
 pub placed-both : {o o′ o″ : List ℕ} {at at′ at″ : ℕ} {s t : List ℕ} → Placed o at s at′ o′ → Placed o′ at′ t at″ o″ → Placed o at (s ++ t) at″ o″
 placed-both {o} {o′} {o″} {at} {at′} {at″} {s} {t} p q =
     let l : length o′ ≡ length o = ap length (p .bytes) ∙ length-over o at s (p .fits) in
     record {
-      fits = simp length-append (omega (arith, p .ends, q .fits));
+      fits = record { room = simp length-append (omega (arith, p .ends, q .fits)) };
       ends = simp length-append (omega (arith, p .ends, q .ends));
       bytes = q .bytes ∙ simp (p .ends, p .bytes) (over-over o at s (p .fits) t);
     }
+
+-- equal texts
+pub fits-same : {o : List ℕ} {at : ℕ} {s t : List ℕ} → s ≡ t → Fits o at s → Fits o at t
+fits-same {o} {at} e h = subst (λ x. Fits o at x) e h
+
+pub placed-same : {o o′ : List ℕ} {at at′ : ℕ} {s t : List ℕ} → s ≡ t → Placed o at s at′ o′ → Placed o at t at′ o′
+placed-same {o} {o′} {at} {at′} e p = subst (λ x. Placed o at x at′ o′) e p

@@ -5,8 +5,8 @@ use Prim.Native.Nat.{ℕ, _+_, _≤_}
 use lib.ListN.{length, take, drop}
 
 -- the text fits into the buffer from the place on
-abbrev pub Fits : List ℕ → ℕ → List ℕ → Type 0
-Fits buffer at text = at + length text ≤ length buffer
+pub record Fits (buffer : List ℕ) (at : ℕ) (text : List ℕ) : Type 0 where
+  pub room : at + length text ≤ length buffer
 
 -- the buffer with the text over what stood from the place on
 abbrev pub over : List ℕ → ℕ → List ℕ → List ℕ
