@@ -1,19 +1,20 @@
--- A text put into a buffer: where it fits, and what the buffer then holds.
+-- A text put into a buffer. Places go on behind the buffer's end, and a byte put there is lost.
 use mathlib.Core.Path.{_≡_}
-use mathlib.Core.List.{List, _++_}
-use Prim.Native.Nat.{ℕ, _+_, _≤_}
-use lib.ListN.{length, take, drop}
+use mathlib.Core.List.{List, [], _∷_}
+use Prim.Native.Nat.{ℕ, _+_, _-_, _^_, _<_, min}
+use lib.ListN.{length, set}
 
--- the text fits into the buffer from the place on
-pub record Fits (buffer : List ℕ) (at : ℕ) (text : List ℕ) : Type 0 where
-  pub room : at + length text ≤ length buffer
-
--- the buffer with the text over what stood from the place on
+-- the buffer with the text from the place on
 abbrev pub over : List ℕ → ℕ → List ℕ → List ℕ
-over buffer at text = take at buffer ++ (text ++ drop (at + length text) buffer)
+over buffer at [] = buffer
+over buffer at (b ∷ text) = over (set buffer at b) (at + 1) text
 
--- the text was put at the place and nothing else was changed; what follows would go to the end
+-- a number, or the largest of 64 bits
+abbrev pub capped : ℕ → ℕ
+capped n = min n (2 ^ 64 - 1)
+
+-- the text was put at the place and nothing else was changed; the end is the place behind it
 pub record Placed (before : List ℕ) (at : ℕ) (text : List ℕ) (end : ℕ) (after : List ℕ) : Type 0 where
-  pub fits : Fits before at text
-  pub ends : end ≡ at + length text
+  pub small : length before < 2 ^ 64
+  pub ends : end ≡ capped (at + length text)
   pub bytes : after ≡ over before at text

@@ -1,2 +1,4 @@
 pub mod Buffers
 pub mod Octets
+pub mod Regions
+pub mod Rows

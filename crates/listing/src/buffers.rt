@@ -1,22 +1,23 @@
-// Bytes put into a lent buffer.
+// Bytes put into a lent buffer. A place may lie behind the buffer's end, so that a text
+// put into an empty buffer is measured.
 ghost use mathlib.Core.List.{[], _∷_};
-ghost use Prim.Native.Nat.{_+_, _≤_};
-ghost use lib.ListN.{length};
-ghost use Rattle.listing.specs.Buffers.{Fits, Placed};
+ghost use Rattle.listing.specs.Buffers.{Placed};
 
-pub(crate) fn write_byte(out: &mut [u8], at: usize, byte: u8) -> usize
-    requires { ⌜ Fits (now out) at (byte ∷ []) ⌝ }
+pub(crate) fn put_byte(out: &mut [u8], at: usize, byte: u8) -> usize
     ensures { λ r. ⌜ Placed (now (out .entry)) at (byte ∷ []) r (now (out .exit)) ⌝ }
 {
-    out[at] = byte;
-    at + 1
+    if at < out.len() {
+        out[at] = byte;
+    }
+    at.saturating_add(1)
 }
 
-pub(crate) fn write_text(out: &mut [u8], at: usize, text: &[u8]) -> usize
-    requires { ⌜ Fits (now out) at (now text) ⌝ }
+pub(crate) fn put_text(out: &mut [u8], at: usize, text: &[u8]) -> usize
     ensures { λ r. ⌜ Placed (now (out .entry)) at (now (text .entry)) r (now (out .exit)) ⌝ }
 {
-    let end = at + text.len();
-    out[at..end].copy_from_slice(text);
+    let mut end = at;
+    for byte in text {
+        end = put_byte(out, end, *byte);
+    }
     end
 }

@@ -2,9 +2,9 @@
 ghost use mathlib.Core.Path.{_≡_};
 ghost use Prim.Native.Nat.{_+_};
 ghost use lib.ListN.{length};
-ghost use Rattle.listing.specs.Buffers.{Fits, Placed};
+ghost use Rattle.listing.specs.Buffers.{Placed};
 ghost use Rattle.listing.specs.Octets.{octetText, spelledOctets};
-use crate::buffers::write_text;
+use crate::buffers::put_text;
 
 // The octets in order, three digits each.
 const DIGITS: [u8; 768] = *b"\
@@ -41,17 +41,10 @@ fn leading_zeros(octet: u8) -> usize
     }
 }
 
-pub(crate) fn octet_length(octet: u8) -> usize
-    ensures { λ r. ⌜ r ≡ length (octetText octet) ⌝ }
-{
-    3 - leading_zeros(octet)
-}
-
-pub(crate) fn write_octet(out: &mut [u8], at: usize, octet: u8) -> usize
-    requires { ⌜ Fits (now out) at (octetText octet) ⌝ }
+pub(crate) fn put_octet(out: &mut [u8], at: usize, octet: u8) -> usize
     ensures { λ r. ⌜ Placed (now (out .entry)) at (octetText octet) r (now (out .exit)) ⌝ }
 {
     let entry = 3 * octet as usize;
     let first = entry + leading_zeros(octet);
-    write_text(out, at, &spelled_octets()[first..entry + 3])
+    put_text(out, at, &spelled_octets()[first..entry + 3])
 }
