@@ -7,9 +7,10 @@ use native.Mathlib.Nat.{add-assoc, add-zero}
 use native.Mathlib.Numerals.{add-one}
 use native.Mathlib.Omega.{arith}
 use lib.ListN.{length, take, drop, set, length-append, length-set}
-use Rattle.std.proofs.shelf.Lists.{set-past}
-use Rattle.std.proofs.shelf.Tests.{cases-lt}
-use Rattle.listing.specs.Buffers.{Placed, over, capped}
+use Rattle.std.proofs.shelf.Lists.{append-assoc, append-nil, drop-all, length-push, set-at, set-past, take-at}
+use Rattle.std.proofs.shelf.Tests.{cases-lt, le-leb}
+use Rattle.std.specs.declared.option.Option.the-variants.{Some}
+use Rattle.listing.specs.Buffers.{Placed, over, capped, written, writtenLength}
 
 length-over : (o : List ℕ) (at : ℕ) (s : List ℕ) → length (over o at s) ≡ length o
 length-over o at [] = refl
@@ -52,3 +53,28 @@ _then_ {o} {o′} {o″} {at} {at′} {at″} {s} {t} p q =
 -- equal texts
 pub placed-same : {o o′ : List ℕ} {at at′ : ℕ} {s t : List ℕ} → s ≡ t → Placed o at s at′ o′ → Placed o at t at′ o′
 placed-same {o} {o′} {at} {at′} e p = subst (λ x. Placed o at x at′ o′) e p
+
+-- a text behind others, in a buffer that holds it whole
+over-behind : (p o s : List ℕ) → length s ≤ length o → over (p ++ o) (length p) s ≡ p ++ (s ++ drop (length s) o)
+over-behind p o [] h = refl
+over-behind p [] (b ∷ s) h = absurd (omega arith)
+over-behind p (x ∷ o) (b ∷ s) h =
+    rw (set-at p x o b (length p) refl, ← append-assoc p (b ∷ []) o, ← length-push p b)
+    (over-behind (p ++ b ∷ []) o s (omega arith) ∙ append-assoc p (b ∷ []) (s ++ drop (length s) o))
+
+-- a text at the front of a buffer that holds it whole
+module _ {o o′ : List ℕ} {n : ℕ} {s : List ℕ} (p : Placed o 0 s n o′) (room : length s ≤ length o) where
+  pub answered : Some n ≡ writtenLength o s
+  answered =
+      let e : n ≡ length s = omega (arith, p .ends, p .small) in
+      rw (le-leb (length s) (length o) room, e)
+
+  pub held : o′ ≡ written o s
+  held = rw (le-leb (length s) (length o) room) (p .bytes ∙ over-behind [] o s room)
+
+-- a text that fills its buffer, as the front of a longer list
+pub filled : {o o′ : List ℕ} {n : ℕ} {s : List ℕ} (p : Placed o 0 s n o′) (k : ℕ) (rest : List ℕ) → length o ≡ k → length s ≡ k → take k (o′ ++ rest) ≡ s
+filled {o} {o′} {n} {s} p k rest e f =
+    let w : o′ ≡ s =
+    p .bytes ∙ over-behind [] o s (omega arith) ∙ ap (λ x. s ++ x) (drop-all (length s) o (omega arith)) ∙ append-nil s in
+    rw w (take-at s rest k f)

@@ -2,3 +2,4 @@ pub mod Buffers
 pub mod Octets
 pub mod Regions
 pub mod Rows
+pub mod Declines

@@ -31,6 +31,6 @@ rowText regions holes lefts rights row =
     placeText lefts (row .left) ++ codes " " ++ placeText rights (row .right) ++ codes " "
     ++ numberedText regions (row .region) ++ holesText regions (holesOf holes row) ++ codes "\n"
 
-abbrev pub listing : List PrefixRange → List Row → List ℕ → ℕ → ℕ → List ℕ
+unfoldable pub listing : List PrefixRange → List Row → List ℕ → ℕ → ℕ → List ℕ
 listing regions rows holes lefts rights =
     codes "rows " ++ decimal (length rows) ++ codes "\n" ++ joined (rowText regions holes lefts rights) rows
