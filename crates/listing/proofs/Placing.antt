@@ -2,31 +2,28 @@
 use mathlib.Core.Path.{_≡_, refl, sym, ap, subst, _∙_}
 use mathlib.Core.List.{List, [], _∷_, _++_}
 use mathlib.Core.Logic.{inl, inr}
-use Prim.Native.Nat.{ℕ, suc, _+_, _-_, _^_, _≤_, _<_, min}
-use native.Mathlib.Nat.{add-assoc, add-zero}
-use native.Mathlib.Numerals.{add-one}
+use Prim.Native.Nat.{ℕ, suc, _+_, _^_, _≤_, _<_}
+use native.Mathlib.Nat.{add-zero}
 use native.Mathlib.Omega.{arith}
-use lib.ListN.{length, take, drop, set, length-append, length-set}
+use lib.ListN.{length, take, drop, set, length-append}
 use Rattle.std.proofs.shelf.Lists.{append-assoc, append-nil, drop-all, length-push, set-at, set-past, take-at}
 use Rattle.std.proofs.shelf.Tests.{cases-lt, le-leb}
 use Rattle.std.specs.declared.option.Option.the-variants.{Some}
 use Rattle.listing.specs.Buffers.{Placed, over, capped, written, writtenLength}
-
-length-over : (o : List ℕ) (at : ℕ) (s : List ℕ) → length (over o at s) ≡ length o
-length-over o at [] = refl
-length-over o at (b ∷ s) = length-over (set o at b) (at + 1) s ∙ length-set o at b
 
 -- nothing changes behind the end
 over-past : (o : List ℕ) (at : ℕ) (s : List ℕ) → length o ≤ at → over o at s ≡ o
 over-past o at [] h = refl
 over-past o at (b ∷ s) h = rw (set-past o at b h) (over-past o (at + 1) s (omega arith))
 
+-- one text over the buffer and another behind it are both together over it
 over-both : (o : List ℕ) (at : ℕ) (s t : List ℕ) → over (over o at s) (at + length s) t ≡ over o at (s ++ t)
 over-both o at [] t = rw add-zero
 over-both o at (b ∷ s) t =
     let e : at + suc (length s) ≡ at + 1 + length s = omega arith in
     rw e (over-both (set o at b) (at + 1) s t)
 
+-- a place beyond 64 bits lies behind the end of every buffer
 over-capped : (o : List ℕ) (n : ℕ) (t : List ℕ) → length o < 2 ^ 64 → over o (capped n) t ≡ over o n t
 over-capped o n t h =
     elim (cases-lt n (2 ^ 64)) [

@@ -1,14 +1,13 @@
 -- Octets in decimal and in three digits.
-use mathlib.Core.Path.{_≡_, refl, sym, ap, subst, _∙_}
+use mathlib.Core.Path.{_≡_, sym, ap, _∙_}
 use mathlib.Core.List.{List, [], _∷_, _++_}
-use mathlib.Core.Logic.{_⊎_, inl, inr}
-use Prim.Native.Nat.{ℕ, zero, suc, _+_, _-_, _*_, _/_, _%_, _^_, _≤_, _<_}
+use mathlib.Core.Logic.{inl, inr}
+use Prim.Native.Nat.{ℕ, zero, suc, _+_, _-_, _*_, _/_, _%_, _≤_, _<_}
 use native.Mathlib.Nat.{add-zero, zero-add}
 use native.Mathlib.Omega.{arith}
 use lib.ListN.{length, take, drop}
 use Rattle.std.specs.Iters.{counting}
 use Rattle.std.specs.Joined.{joined}
-use Rattle.std.specs.Written.{decimal}
 use Rattle.std.proofs.shelf.Decimals.{decimal-digit, decimal-step}
 use Rattle.std.proofs.shelf.Lists.{drop-drop, drop-append-le, take-at, length-drop}
 use Rattle.std.proofs.shelf.Tests.{cases-lt}
@@ -41,16 +40,15 @@ two-long n low high = ap length (two-digits n low high)
 pub three-long : (n : ℕ) → 100 ≤ n → n < 1000 → length (octetText n) ≡ 3
 three-long n low high = ap length (all-digits n low high)
 
-module _ (n z : ℕ) (high : n < 1000) (e : z + length (octetText n) ≡ 3) where
-  pub without-zeros : octetText n ≡ drop z (threeDigits n)
-  without-zeros =
-      elim (cases-lt n 10) [
-        | inl l ↦ let q : 2 ≡ z = omega (arith, one-long n l) in one-digit n l ∙ ap (λ k. drop k (threeDigits n)) q
-        | inr g ↦ elim (cases-lt n 100) [
-          | inl l ↦ let q : 1 ≡ z = omega (arith, two-long n g l) in two-digits n g l ∙ ap (λ k. drop k (threeDigits n)) q
-          | inr f ↦ let q : 0 ≡ z = omega (arith, three-long n f high) in all-digits n f high ∙ ap (λ k. drop k (threeDigits n)) q
-        ]
+without-zeros : (n z : ℕ) → n < 1000 → z + length (octetText n) ≡ 3 → octetText n ≡ drop z (threeDigits n)
+without-zeros n z high e =
+    elim (cases-lt n 10) [
+      | inl l ↦ let q : 2 ≡ z = omega (arith, one-long n l) in one-digit n l ∙ ap (λ k. drop k (threeDigits n)) q
+      | inr g ↦ elim (cases-lt n 100) [
+        | inl l ↦ let q : 1 ≡ z = omega (arith, two-long n g l) in two-digits n g l ∙ ap (λ k. drop k (threeDigits n)) q
+        | inr f ↦ let q : 0 ≡ z = omega (arith, three-long n f high) in all-digits n f high ∙ ap (λ k. drop k (threeDigits n)) q
       ]
+    ]
 
 -- the table from entry k on
 from-entry : (k a m : ℕ) → drop (3 * k) (joined threeDigits (counting a (k + m))) ≡ joined threeDigits (counting (a + k) m)
@@ -61,6 +59,7 @@ from-entry (suc k) a m =
     let g : a + 1 + k ≡ a + suc k = omega arith in
     rw (e, f) (from-entry k (a + 1) m ∙ ap (λ i. joined threeDigits (counting i m)) g)
 
+-- entry n, and what follows it
 entry : (n : ℕ) → n < 256 → (rest : List ℕ) × (drop (3 * n) spelledOctets ≡ threeDigits n ++ rest)
 entry n h =
     let m : ℕ = 255 - n in

@@ -2,7 +2,7 @@
 ghost use mathlib.Core.Path.{_≡_};
 ghost use Rattle.listing.specs.Buffers.{Placed};
 ghost use Rattle.listing.specs.Regions.{numberedText};
-ghost use Rattle.listing.specs.Rows.{holesOf, holesText, placeText, rowText};
+ghost use Rattle.listing.specs.Listings.{holesOf, holesText, placeText, rowText};
 use crate::buffers::put_byte;
 use crate::buffers::put_text;
 use crate::numbers::put_number;

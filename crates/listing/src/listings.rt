@@ -5,7 +5,7 @@ ghost use Rattle.std.specs.Joined.{joined};
 ghost use Rattle.std.specs.Of.Vec.{vec-items};
 ghost use Rattle.std.specs.Vec.{made};
 ghost use Rattle.listing.specs.Buffers.{capped, Placed, written, writtenLength};
-ghost use Rattle.listing.specs.Rows.{listing, rowText};
+ghost use Rattle.listing.specs.Listings.{listing, rowText};
 use crate::buffers::put_byte;
 use crate::buffers::put_text;
 use crate::lines::put_row;

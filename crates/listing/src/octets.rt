@@ -22,7 +22,7 @@ const DIGITS: [u8; 768] = *b"\
     220221222223224225226227228229230231232233234235236237238239\
     240241242243244245246247248249250251252253254255";
 
-// The table's rule: the check computes both sides, which tests all 256 entries at once.
+// The rule of the table, tested over all 256 entries at once.
 fn spelled_octets() -> &'static [u8]
     ensures { λ r. ⌜ now r ≡ spelledOctets ⌝ }
 {

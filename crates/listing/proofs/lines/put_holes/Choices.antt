@@ -1,6 +1,6 @@
 use lib.ListN.{take}
 use Rattle.listing.specs.Buffers.{Placed}
-use Rattle.listing.specs.Rows.{holesText}
+use Rattle.listing.specs.Listings.{holesText}
 use Rattle.listing.proofs.lines.put_holes.Given as given
 
 abbrev pub Inv-loop-hole : given.InvT-loop-hole

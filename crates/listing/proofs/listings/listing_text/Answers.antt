@@ -1,5 +1,5 @@
 use native.Mathlib.Omega.{arith}
-use Rattle.listing.specs.Rows.{listing}
+use Rattle.listing.specs.Listings.{listing}
 use Rattle.listing.proofs.Placing.{filled}
 use Rattle.listing.proofs.listings.listing_text.Needs as need
 

@@ -1,4 +1,4 @@
-use Rattle.listing.specs.Rows.{listing}
+use Rattle.listing.specs.Listings.{listing}
 use Rattle.listing.proofs.Placing.{_then_}
 use Rattle.listing.proofs.listings.put_listing.Needs as need
 

@@ -1,7 +1,7 @@
 use mathlib.Core.Path.{refl}
 use lib.ListN.{getD}
 use Rattle.listing.specs.declared.rows.Row.{Row}
-use Rattle.listing.specs.Rows.{rowText}
+use Rattle.listing.specs.Listings.{rowText}
 use Rattle.listing.proofs.Parts.{joined-take, joined-all}
 use Rattle.listing.proofs.Placing.{placed-same, _then_}
 use Rattle.listing.proofs.listings.put_rows.Needs as need

@@ -1,7 +1,7 @@
 use lib.ListN.{take}
 use Rattle.std.specs.Joined.{joined}
 use Rattle.listing.specs.Buffers.{Placed}
-use Rattle.listing.specs.Rows.{rowText}
+use Rattle.listing.specs.Listings.{rowText}
 use Rattle.listing.proofs.listings.put_rows.Given as given
 
 abbrev pub Inv-loop-row : given.InvT-loop-row
