@@ -8,7 +8,7 @@ use lib.ListN.{length, take, drop}
 use Rattle.std.specs.Joined.{joined}
 use Rattle.std.specs.Written.{decimal}
 use Rattle.supplied.specs.declared.ranges.PrefixRange.{PrefixRange}
-use Rattle.listing.specs.declared.rows.Row.{Row}
+use Rattle.compare.specs.declared.rows.Row.{Row}
 use Rattle.listing.specs.Regions.{numberedText}
 
 -- a deciding place among a filter's clauses: the place behind them is the default

@@ -6,7 +6,6 @@ mod listings;
 mod numbers;
 mod octets;
 mod regions;
-mod rows;
 
 pub use declines::Declined;
 pub use declines::declined_text;
@@ -14,4 +13,3 @@ pub use declines::write_declined;
 pub use listings::listing_length;
 pub use listings::listing_text;
 pub use listings::write_listing;
-pub use rows::Row;

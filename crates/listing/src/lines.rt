@@ -7,7 +7,7 @@ use crate::buffers::put_byte;
 use crate::buffers::put_text;
 use crate::numbers::put_number;
 use crate::regions::put_region;
-use crate::rows::Row;
+use compare::Row;
 use supplied::PrefixRange;
 
 fn put_place(out: &mut [u8], at: usize, clauses: usize, place: usize) -> usize

@@ -10,7 +10,7 @@ use crate::buffers::put_byte;
 use crate::buffers::put_text;
 use crate::lines::put_row;
 use crate::numbers::put_number;
-use crate::rows::Row;
+use compare::Row;
 use std::alloc::AllocError;
 use std::alloc::Global;
 use supplied::PrefixRange;

@@ -1,6 +1,6 @@
 use mathlib.Core.Path.{refl}
 use lib.ListN.{getD}
-use Rattle.listing.specs.declared.rows.Row.{Row}
+use Rattle.compare.specs.declared.rows.Row.{Row}
 use Rattle.listing.specs.Listings.{rowText}
 use Rattle.listing.proofs.Parts.{joined-take, joined-all}
 use Rattle.listing.proofs.Placing.{placed-same, _then_}
