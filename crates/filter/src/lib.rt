@@ -7,4 +7,3 @@ mod table;
 pub use draft::Draft;
 pub use places::insert_at;
 pub use sealed::Sealed;
-pub use table::Table;

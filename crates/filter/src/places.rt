@@ -1,10 +1,10 @@
-// A list kept at the front of lent places: one element more at a place, the others in their order.
+// Lent places: a list kept at their front, one element more at a place with the others in their order, and the last place.
 ghost use mathlib.Core.Path.{_≡_};
 ghost use mathlib.Core.Bool.{cond, _&&_};
 ghost use mathlib.Core.List.{_++_};
-ghost use Prim.Native.Nat.{_+_};
+ghost use Prim.Native.Nat.{_+_, _-_};
 ghost use lib.Dec.{leb, ltb};
-ghost use lib.ListN.{length, take, drop};
+ghost use lib.ListN.{length, take, drop, set, getD};
 ghost use Rattle.std.specs.shelf.Lists.{inserted};
 
 // Puts an element before the one at a place, or at the end of the first `count`; false where there is no such place.
@@ -19,4 +19,26 @@ pub fn insert_at<T: Copy>(places: &mut [T], count: usize, place: usize, x: T) ->
     let part = &mut places[place..count + 1];
     part.rotate_right(1);
     true
+}
+
+// Writes the last place, where there is one.
+pub fn put_last<T: Copy>(places: &mut [T], x: T)
+    ensures { λ _. ⌜ now (places .exit) ≡ set (now (places .entry)) (length (now (places .entry)) - 1) x ⌝ }
+{
+    let room = places.len();
+    if room > 0 {
+        places[room - 1] = x;
+    }
+}
+
+// Reads the last place, or answers what stands for it where there is none.
+pub fn last_or<T: Copy>(places: &[T], otherwise: T) -> T
+    ensures { λ r. ⌜ r ≡ getD (now (places .entry)) (length (now (places .entry)) - 1) otherwise ⌝ }
+{
+    let room = places.len();
+    if room > 0 {
+        places[room - 1]
+    } else {
+        otherwise
+    }
 }

@@ -1,6 +1,6 @@
+// A sealed filter: it is matched, compared and written, and takes no edit.
 ghost use mathlib.Core.Path.{_≡_};
-ghost use lib.ListN.{length, take};
-ghost use Prim.Native.Nat.{min, _-_};
+ghost use Rattle.filter.specs.States.{sealedView};
 use crate::table::Table;
 use family::ActionKind;
 use family::Clause;
@@ -11,9 +11,22 @@ pub struct Sealed<'a, R, A> {
 }
 
 impl<'a, R: Family, A: ActionKind> Sealed<'a, R, A> {
+    pub(crate) fn over(table: Table<'a, R, A>) -> Sealed<'a, R, A>
+        ensures { λ r. ⌜ r .table ≡ table .entry ⌝ }
+    {
+        Sealed { table }
+    }
+
+    // The clauses in their order.
     pub fn clauses(&self) -> &[Clause<R, A>]
-        ensures { λ r. ⌜ now r ≡ take (min (now (self .entry) .table .count) (min 64 (length (now (now (self .entry) .table .places)) - 1))) (now (now (self .entry) .table .places)) ⌝ }
+        ensures { λ r. ⌜ now r ≡ sealedView reject (now (self .entry)) .clauses ⌝ }
     {
         self.table.clauses()
+    }
+
+    pub fn default(&self) -> A
+        ensures { λ r. ⌜ r ≡ sealedView reject (now (self .entry)) .default ⌝ }
+    {
+        self.table.default()
     }
 }
