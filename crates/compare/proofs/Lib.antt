@@ -2,6 +2,7 @@ pub mod Extended
 pub mod Fronts
 pub mod Gathered
 pub mod Growth
+pub mod HoleTotals
 pub mod Kept
 pub mod LaidOut
 pub mod Puts
