@@ -5,7 +5,10 @@ pub mod Growth
 pub mod HoleTotals
 pub mod Kept
 pub mod LaidOut
+pub mod Outcomes
 pub mod Puts
 pub mod Ranked
 pub mod Reached
+pub mod ReportMade
 pub mod RowFound
+pub mod UsedPlaces
