@@ -1,6 +1,9 @@
+pub mod Accepting
 pub mod ClauseTurns
 pub mod FieldTurns
 pub mod Filling
+pub mod Heads
+pub mod Inversion
 pub mod Places
 pub mod Seen
 pub mod Spelled

@@ -1,3 +1,4 @@
+pub mod AcceptedFiles
 pub mod ActionRecords
 pub mod Faults
 pub mod Fields
