@@ -4,7 +4,9 @@ pub mod FieldTurns
 pub mod Filling
 pub mod Heads
 pub mod Inversion
+pub mod KindSizes
 pub mod Places
 pub mod Seen
+pub mod Sizes
 pub mod Spelled
 pub mod WholeFiles

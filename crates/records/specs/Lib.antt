@@ -6,3 +6,4 @@ pub mod Files
 pub mod Layouts
 pub mod RangeRecords
 pub mod Reading
+pub mod Sizes
