@@ -10,18 +10,18 @@ use lib.Count.{ones, ones-step, trailingZeros, under}
 use lib.ListN.{length}
 use Rattle.records.specs.Layouts.{placesFrom, placesOf}
 
-parity : (a : ℕ) → (a % 2 ≡ 1) ⊎ (a % 2 ≡ 0)
+pub parity : (a : ℕ) → (a % 2 ≡ 1) ⊎ (a % 2 ≡ 0)
 parity a = grind arith
 
 half-below : (w a : ℕ) → a < 2 ^ suc w → a / 2 < 2 ^ w
 half-below w a h = let double = pow-suc 2 w in omega arith
 
 -- the places at a map whose lowest bit is known
-at-odd : (w p a : ℕ) → a % 2 ≡ 1 → placesFrom (suc w) p a ≡ p ∷ placesFrom w (p + 1) (a / 2)
+pub at-odd : (w p a : ℕ) → a % 2 ≡ 1 → placesFrom (suc w) p a ≡ p ∷ placesFrom w (p + 1) (a / 2)
 unfolding placesFrom
 at-odd w p a odd = rw odd
 
-at-even : (w p a : ℕ) → a % 2 ≡ 0 → placesFrom (suc w) p a ≡ placesFrom w (p + 1) (a / 2)
+pub at-even : (w p a : ℕ) → a % 2 ≡ 0 → placesFrom (suc w) p a ≡ placesFrom w (p + 1) (a / 2)
 unfolding placesFrom
 at-even w p a even = rw even
 

@@ -18,7 +18,7 @@ behind-read (Ok p) rest same = let end : p .1 ≡ rest = cc in (p .0, ap (λ b. 
 behind-read (Err fault) rest same = let z : _≡_ {A = ℕ} 0 1 = cc in absurd (omega arith)
 
 module _ {R A : Type 0} (regionOf : List ℕ → Read R) (actionOf : List ℕ → Read A) (code memory : ℕ) (bytes : List ℕ) (count : ℕ) (body rest : List ℕ) (action : A) where
-  file-from : (clauses : List (Clause R A)) → headOf code memory bytes ≡ Ok (count, body) → clausesOf regionOf actionOf (length bytes) count 0 body ≡ Ok (clauses, rest) → defaultOf actionOf (length bytes) rest ≡ Ok action → fileOf regionOf actionOf code memory bytes ≡ Ok (clauses, action)
+  pub file-from : (clauses : List (Clause R A)) → headOf code memory bytes ≡ Ok (count, body) → clausesOf regionOf actionOf (length bytes) count 0 body ≡ Ok (clauses, rest) → defaultOf actionOf (length bytes) rest ≡ Ok action → fileOf regionOf actionOf code memory bytes ≡ Ok (clauses, action)
   file-from clauses head read last = rw (head, read, last)
 
   -- the clauses of a file that is read, as many as its count says

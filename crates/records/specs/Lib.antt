@@ -1,3 +1,4 @@
+pub mod AcceptedFiles
 pub mod ActionRecords
 pub mod Faults
 pub mod Fields
@@ -5,3 +6,4 @@ pub mod Files
 pub mod Layouts
 pub mod RangeRecords
 pub mod Reading
+pub mod Sizes

@@ -2,6 +2,8 @@
 ghost use mathlib.Core.Path.{_≡_};
 ghost use Rattle.records.specs.ActionRecords.{actionLayout};
 ghost use Rattle.records.specs.Layouts.{recordOf};
+ghost use Rattle.records.specs.Reading.{outcomeOf, restOf};
+ghost use Rattle.records.specs.Sizes.{actionSize, TookBytes};
 use crate::faults::RecordFault;
 use crate::fields::read_u32;
 use crate::layouts::Layout;
@@ -69,7 +71,11 @@ pub impl Layout for ActionNumbers as ActionLayout {
 pub impl RecordedAction for RouteAction as RouteActionRecord {
     ghost reads = { recordOf actionLayout };
 
-    fn read(bytes: &[u8]) -> (Result<RouteAction, RecordFault>, &[u8]) {
+    fn read(bytes: &[u8]) -> (Result<RouteAction, RecordFault>, &[u8])
+        ensures outcome { λ r. ⌜ r .0 ≡ outcomeOf (recordOf actionLayout (now (bytes .entry))) ⌝ }
+        ensures rest { λ r. ⌜ now (r .1) ≡ restOf (now (bytes .entry)) (recordOf actionLayout (now (bytes .entry))) ⌝ }
+        ensures count { λ r. ⌜ TookBytes actionSize (now (bytes .entry)) (r .0) (now (r .1)) ⌝ }
+    {
         read_record::<ActionNumbers>(bytes)
     }
 }

@@ -4,6 +4,7 @@ ghost use mathlib.Core.Path.{_≡_};
 ghost use Prim.Native.Nat.{ℕ, _≤_};
 ghost use lib.ListN.{length, drop};
 ghost use Rattle.std.specs.declared.result.Result.the-variants.{Ok};
+ghost use Rattle.records.specs.AcceptedFiles.{Rightly};
 ghost use Rattle.records.specs.Files.{headOf, usablePlaces, clauseOf, clausesOf, behindOf, defaultOf, fileOf, answerOf, placesAfter};
 ghost use Rattle.records.specs.Reading.{seen, seenRest};
 use crate::faults::Fault;
@@ -116,6 +117,7 @@ pub fn read_file<R: Recorded, A: RecordedAction>(
 ) -> Result<(usize, A), Fault>
     ensures answer { λ r. ⌜ r ≡ answerOf (fileOf (R·Recorded .reads) (A·RecordedAction .reads) code (length (now (places .entry))) (now (bytes .entry))) ⌝ }
     ensures places { λ _. ⌜ now (places .exit) ≡ placesAfter (now (places .entry)) (fileOf (R·Recorded .reads) (A·RecordedAction .reads) code (length (now (places .entry))) (now (bytes .entry))) ⌝ }
+    ensures file { λ r. ⌜ Rightly (R·Recorded .reads) (A·RecordedAction .reads) code (length (now (places .entry))) (now (bytes .entry)) r (now (places .exit)) ⌝ }
 {
     let total = bytes.len();
     let (count, body) = match read_head(code, places.len(), bytes) {

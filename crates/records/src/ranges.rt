@@ -1,7 +1,10 @@
 // The record of a prefix range: its address and its three lengths.
 ghost use mathlib.Core.Path.{_≡_};
+ghost use Rattle.supplied.specs.PrefixRanges.{prefixHolds};
 ghost use Rattle.records.specs.Layouts.{recordOf};
 ghost use Rattle.records.specs.RangeRecords.{rangeLayout};
+ghost use Rattle.records.specs.Reading.{outcomeOf, restOf, heldIn};
+ghost use Rattle.records.specs.Sizes.{rangeSize, TookBytes};
 use crate::faults::RecordFault;
 use crate::fields::given_u8;
 use crate::fields::given_u32;
@@ -11,6 +14,7 @@ use crate::recorded::Recorded;
 use supplied::MakeError;
 use supplied::PrefixRange;
 use supplied::PrefixRangeFamily;
+use supplied::Route;
 
 // The numbers so far: a field not yet read stands at its absent value.
 #[derive(Clone, Copy)]
@@ -87,7 +91,12 @@ pub impl Layout for RangeNumbers as RangeLayout {
 pub impl Recorded for PrefixRange as PrefixRangeRecord {
     ghost reads = { recordOf rangeLayout };
 
-    fn read(bytes: &[u8]) -> (Result<PrefixRange, RecordFault>, &[u8]) {
+    fn read(bytes: &[u8]) -> (Result<PrefixRange, RecordFault>, &[u8])
+        ensures outcome { λ r. ⌜ r .0 ≡ outcomeOf (recordOf rangeLayout (now (bytes .entry))) ⌝ }
+        ensures rest { λ r. ⌜ now (r .1) ≡ restOf (now (bytes .entry)) (recordOf rangeLayout (now (bytes .entry))) ⌝ }
+        ensures meaning { λ r. ⌜ ((point : Route) → heldIn prefixHolds (r .0) point ≡ heldIn prefixHolds (outcomeOf (recordOf rangeLayout (now (bytes .entry)))) point) ⌝ }
+        ensures count { λ r. ⌜ TookBytes rangeSize (now (bytes .entry)) (r .0) (now (r .1)) ⌝ }
+    {
         read_record::<RangeNumbers>(bytes)
     }
 }
