@@ -28,7 +28,7 @@ first-way : {X E : Type 0} (b : Bool) (m : Result X E) (fault : E) (x : X) → c
 first-way true m fault x e = e
 first-way false m fault x e = let z : _≡_ {A = ℕ} 0 1 = cc in absurd (omega arith)
 
-second-way : {X E : Type 0} (b : Bool) (m : Result X E) (fault : E) (x : X) → cond b (Err fault) m ≡ Ok x → (b ≡ false) × (m ≡ Ok x)
+pub second-way : {X E : Type 0} (b : Bool) (m : Result X E) (fault : E) (x : X) → cond b (Err fault) m ≡ Ok x → (b ≡ false) × (m ≡ Ok x)
 second-way true m fault x e = let z : _≡_ {A = ℕ} 0 1 = cc in absurd (omega arith)
 second-way false m fault x e = (refl, e)
 
@@ -36,7 +36,7 @@ part-read : {X : Type 0} (total : ℕ) (part : Part) (r : Read X) (p : X × List
 part-read total part (Ok q) p e = let same : q ≡ p = cc in ap Ok same
 part-read total part (Err fault) p e = let z : _≡_ {A = ℕ} 0 1 = cc in absurd (omega arith)
 
-same-pair : {X E : Type 0} (a b : X) → _≡_ {A = Result X E} (Ok a) (Ok b) → a ≡ b
+pub same-pair : {X E : Type 0} (a b : X) → _≡_ {A = Result X E} (Ok a) (Ok b) → a ≡ b
 same-pair a b e = cc
 
 same-answer : {X Y E : Type 0} (a c : X) (b d : Y) → _≡_ {A = Result (X × Y) E} (Ok (a, b)) (Ok (c, d)) → a ≡ c

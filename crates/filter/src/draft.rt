@@ -14,6 +14,7 @@ use records::Fault;
 use records::Recorded;
 use records::RecordedAction;
 
+#[derive(Drop)]
 pub struct Draft<'a, R, A> {
     table: Table<'a, R, A>,
 }

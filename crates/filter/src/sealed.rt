@@ -6,6 +6,7 @@ use family::ActionKind;
 use family::Clause;
 use family::Family;
 
+#[derive(Drop)]
 pub struct Sealed<'a, R, A> {
     table: Table<'a, R, A>,
 }

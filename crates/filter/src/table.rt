@@ -16,6 +16,7 @@ use records::RecordedAction;
 use records::read_file;
 
 // The clauses stand in the first places, the default in the last.
+#[derive(Drop)]
 pub struct Table<'a, R, A> {
     places: &'a mut [Clause<R, A>],
     count: usize,
