@@ -1,6 +1,6 @@
 -- Prefix ranges over addresses of W bits: which points they hold, when one is inside another, their meet and shifts.
-use mathlib.Core.Path.{_≡_, refl}
-use mathlib.Core.Bool.{Bool, true, false, cond, _&&_}
+use mathlib.Core.Path.{_≡_}
+use mathlib.Core.Bool.{Bool, true, cond, _&&_}
 use Prim.Native.Nat.{ℕ, _+_, _-_, _%_, _^_, _≤_, _<_, min, max}
 use mathlib.Core.HLevel.{isProp→PathP}
 use native.Mathlib.Bridge.{le-prop}
@@ -14,7 +14,7 @@ use Rattle.family.specs.declared.edges.Edge.{Edge}
 use Rattle.supplied.specs.Making.{ifTrue}
 use Rattle.supplied.specs.Edges.{toEdge, edge-below}
 use Rattle.supplied.specs.Multiples.{cutDown, cut-multiple, cut-below}
-use Rattle.supplied.specs.Prefixes.{bitsAfter, agree}
+use Rattle.supplied.specs.Prefixes.{agree}
 
 pub record Range (W : ℕ) : Type 0 where
   pub address : ℕ
