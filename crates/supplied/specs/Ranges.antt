@@ -91,7 +91,7 @@ module _ (W : ℕ) where
       leb (b .low) (a .low)
       && (leb (a .high) (b .high) && (leb (b .length) (a .length) && agree W (b .length) (a .address) (b .address)))
 
-  -- b has a's prefix in its own, and a length that both allow
+  -- a's prefix lies under b's, and there is a length that both allow
   abbrev pub overlaps : Range W → Range W → Bool
   overlaps a b =
       agree W (b .length) (a .address) (b .address) && leb (max (a .low) (b .low)) (min (a .high) (b .high))
