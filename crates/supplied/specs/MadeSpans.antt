@@ -1,7 +1,6 @@
 -- The span that two ends make, and the point that a number makes, or why there is none.
 use mathlib.Core.Path.{_≡_, refl, sym, ap}
-use mathlib.Core.Bool.{true, false}
-use Prim.Native.Nat.{ℕ, _≤_}
+use Prim.Native.Nat.{ℕ}
 use lib.Dec.{leb}
 use Rattle.std.proofs.shelf.Tests.{leb-true, le-leb}
 use Rattle.std.specs.declared.option.Option.{Option}

@@ -1,6 +1,6 @@
 -- What is made unless there is a fault.
 use mathlib.Core.Path.{_≡_, refl, ap}
-use mathlib.Core.Bool.{Bool, true, false, cond}
+use mathlib.Core.Bool.{Bool, true, false}
 use Prim.Native.Nat.{ℕ}
 use native.Mathlib.Omega.{arith}
 use Rattle.std.specs.declared.option.Option.{Option}
@@ -51,7 +51,3 @@ if-none false make h = refl
 pub some-if : {X : Type 0} (b : Bool) (make : b ≡ true → X) (x : X) → b ≡ true → ((e : b ≡ true) → make e ≡ x) → ifTrue b make ≡ Some x
 some-if true make x h same = ap Some (same refl)
 some-if false make x h same = cc
-
-pub none-if : {X : Type 0} (b : Bool) (make : b ≡ true → X) → b ≡ false → ifTrue b make ≡ None
-none-if true make h = cc
-none-if false make h = refl

@@ -1,10 +1,10 @@
 -- Multiples of a number, multiples of powers of two, and numbers cut down to a multiple.
-use mathlib.Core.Path.{_≡_, refl, sym, ap, _∙_}
-use mathlib.Core.Logic.{_⊎_, inl, inr, ⊎-elim}
+use mathlib.Core.Path.{_≡_, sym, ap, _∙_}
+use mathlib.Core.Logic.{⊎-elim}
 use Prim.Native.Nat.{ℕ, _+_, _-_, _*_, _/_, _%_, _^_, _≤_, _<_}
 use native.Mathlib.Nat.{div-add-mod, mul-le-mul-left, mul-add, mul-one, mul-mod-right, zero-mod, mod-lt, add-mod, mod-self}
 use native.Mathlib.Omega.{arith}
-use lib.Pow.{mod-mod-pow, pow-pos}
+use lib.Pow.{mod-mod-pow}
 use Rattle.std.proofs.shelf.Tests.{cases-lt}
 
 -- two multiples of s are at least s apart

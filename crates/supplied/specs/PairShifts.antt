@@ -1,10 +1,8 @@
 -- Shifts of a pair: along each axis one part moves, and a walk moves first the one and then the other.
 use mathlib.Core.Path.{_≡_, refl, ap, _∙_}
-use mathlib.Core.Bool.{Bool, true, false, cond}
 use mathlib.Core.List.{List, [], _∷_, _++_, map}
 use Prim.Native.Nat.{ℕ, _+_, _-_, _≤_, _<_}
 use native.Mathlib.Omega.{arith}
-use lib.Dec.{leb}
 use lib.ListN.{length}
 use Rattle.std.proofs.shelf.Tests.{le-leb, lt-leb}
 use Rattle.family.specs.declared.edges.Edge.{Edge}

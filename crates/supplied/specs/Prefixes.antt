@@ -1,13 +1,13 @@
 -- Addresses of W bits and the prefixes that they begin with.
 use mathlib.Core.Path.{_≡_, sym, ap, _∙_}
 use Prim.Native.Nat.{ℕ, _+_, _-_, _*_, _/_, _%_, _^_, _≤_, _<_}
-use mathlib.Core.Bool.{Bool, true, false, _&&_}
+use mathlib.Core.Bool.{Bool, true, _&&_}
 use native.Mathlib.Nat.{div-add-mod, div-add-mod', mod-lt}
 use native.Mathlib.Omega.{arith}
 use lib.Dec.{ltb, eqb}
 use lib.Pow.{pow-pos}
 use Rattle.std.proofs.shelf.Bits.{div-mul-add}
-use Rattle.std.proofs.shelf.Tests.{ltb-true, eqb-true, and-parts, and-from, and-right, lt-ltb, eq-eqb, ne-eqb}
+use Rattle.std.proofs.shelf.Tests.{ltb-true, eqb-true, and-parts, and-from, lt-ltb, eq-eqb}
 
 -- the first n bits of the address
 abbrev pub firstBits : (W n address : ℕ) → ℕ
@@ -37,10 +37,6 @@ module _ (W n address : ℕ) where
   is-prefix b z =
       and-from (ltb address (2 ^ W)) (eqb (bitsAfter W n address) 0) (lt-ltb address (2 ^ W) b)
       (eq-eqb (bitsAfter W n address) 0 z)
-
-  pub no-prefix : (bitsAfter W n address ≡ 0 → ⊥) → isPrefix W n address ≡ false
-  no-prefix ne =
-      and-right (ltb address (2 ^ W)) (eqb (bitsAfter W n address) 0) (ne-eqb (bitsAfter W n address) 0 ne)
 
 -- The addresses that agree with a prefix over its n bits lie in one interval.
 module _ (W n address x : ℕ) (zeros : bitsAfter W n address ≡ 0) where

@@ -1,12 +1,11 @@
 -- What a prefix range holds, as two intervals: of lengths and of addresses.
-use mathlib.Core.Path.{_≡_, refl, sym, ap, subst}
-use mathlib.Core.Bool.{Bool, true, false, _&&_}
-use Prim.Native.Nat.{ℕ, _+_, _-_, _%_, _^_, _≤_, _<_}
+use mathlib.Core.Path.{_≡_, ap}
+use mathlib.Core.Bool.{true, _&&_}
+use Prim.Native.Nat.{ℕ, _+_, _-_, _^_, _≤_, _<_}
 use native.Mathlib.Omega.{arith}
 use lib.Dec.{leb}
 use lib.Pow.{pow-pos}
 use Rattle.std.proofs.shelf.Tests.{leb-true, le-leb, and-parts, and-from}
-use Rattle.std.proofs.shelf.Ways.{same-from-decides, decides-like}
 use Rattle.std.specs.Orderings.{Decides}
 use Rattle.supplied.specs.Multiples.{multiples-apart, finer-multiple, finer-power}
 use Rattle.supplied.specs.Prefixes.{agree, agree-from, agree-upto, agreeing}

@@ -1,12 +1,12 @@
 -- A prefix range is inside another exactly when the other holds all its points.
-use mathlib.Core.Path.{_≡_, refl, sym, ap, _∙_}
-use mathlib.Core.Bool.{Bool, true, false, _&&_}
-use mathlib.Core.Logic.{_⊎_, ⊎-elim}
-use Prim.Native.Nat.{ℕ, _+_, _-_, _%_, _^_, _≤_, _<_}
+use mathlib.Core.Path.{_≡_, sym, _∙_}
+use mathlib.Core.Bool.{true, _&&_}
+use mathlib.Core.Logic.{⊎-elim}
+use Prim.Native.Nat.{ℕ, _+_, _-_, _^_, _≤_, _<_}
 use native.Mathlib.Nat.{le-refl}
 use native.Mathlib.Omega.{arith}
 use lib.Dec.{leb}
-use lib.Pow.{pow-pos, pow-mono, pow-lt}
+use lib.Pow.{pow-mono, pow-lt}
 use Rattle.std.proofs.shelf.Tests.{leb-true, le-leb, and-parts, and-from, cases-lt}
 use Rattle.supplied.specs.Multiples.{multiples-apart, finer-multiple, finer-power, sum-multiple}
 use Rattle.supplied.specs.Prefixes.{agree, agree-from, agree-upto, agreeing}

@@ -1,10 +1,9 @@
 -- Prefix ranges over addresses of W bits are a family.
-use mathlib.Core.Path.{_≡_}
 use Prim.Native.Nat.{ℕ}
 use native.Mathlib.Nat.{le-refl}
 use native.Mathlib.Omega.{arith}
 use Rattle.family.specs.Families.{FamilyLaws}
-use Rattle.supplied.specs.Ranges.{Range, Point, wholeRange, firstRoute, rangeHolds, rangeInside, rangeMeet, rangeShifted}
+use Rattle.supplied.specs.Ranges.{wholeRange, firstRoute, rangeHolds, rangeInside, rangeMeet, rangeShifted}
 use Rattle.supplied.specs.RangeHolds.{held, corner, corner-held, whole-holds}
 use Rattle.supplied.specs.RangeInside as inside
 use Rattle.supplied.specs.RangeMeet as meet

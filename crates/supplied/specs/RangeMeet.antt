@@ -1,16 +1,15 @@
 -- The meet of two prefix ranges holds exactly the points that both hold, and there is none exactly when no point is in both.
-use mathlib.Core.Path.{_≡_, refl, sym, ap, _∙_}
-use mathlib.Core.Bool.{Bool, true, false, cond, _&&_}
-use mathlib.Core.Logic.{_⊎_, ⊎-elim}
-use Prim.Native.Nat.{ℕ, _+_, _-_, _%_, _^_, _≤_, _<_, min, max}
+use mathlib.Core.Path.{_≡_}
+use mathlib.Core.Bool.{true, false, _&&_}
+use mathlib.Core.Logic.{⊎-elim}
+use Prim.Native.Nat.{ℕ, _-_, _^_, _≤_, _<_, min, max}
 use native.Mathlib.Omega.{arith}
 use lib.Dec.{leb}
 use Rattle.std.proofs.shelf.Tests.{leb-true, leb-false, and-parts, and-cases, cases-lt, cond-both, both-ways}
 use Rattle.std.proofs.shelf.Ways.{same-from-decides, decides-like, decides-and}
 use Rattle.std.specs.Orderings.{Decides}
-use Rattle.std.specs.declared.option.Option.{Option}
 use Rattle.std.specs.declared.option.Option.the-variants.{Some, None}
-use Rattle.supplied.specs.Making.{ifTrue, if-some, if-none}
+use Rattle.supplied.specs.Making.{if-some, if-none}
 use Rattle.supplied.specs.Multiples.{multiples-apart, finer-multiple}
 use Rattle.supplied.specs.Prefixes.{agree, agree-from, agree-upto, agreeing}
 use Rattle.supplied.specs.Ranges.{Range, Point, rangeHolds, rangeMeet, narrowed, narrowTo, overlaps}

@@ -1,6 +1,6 @@
 -- Prefix ranges over addresses of W bits: which points they hold, when one is inside another, their meet and shifts.
-use mathlib.Core.Path.{_≡_, refl}
-use mathlib.Core.Bool.{Bool, true, false, cond, _&&_}
+use mathlib.Core.Path.{_≡_}
+use mathlib.Core.Bool.{Bool, true, cond, _&&_}
 use Prim.Native.Nat.{ℕ, _+_, _-_, _%_, _^_, _≤_, _<_, min, max}
 use mathlib.Core.HLevel.{isProp→PathP}
 use native.Mathlib.Bridge.{le-prop}
@@ -14,7 +14,7 @@ use Rattle.family.specs.declared.edges.Edge.{Edge}
 use Rattle.supplied.specs.Making.{ifTrue}
 use Rattle.supplied.specs.Edges.{toEdge, edge-below}
 use Rattle.supplied.specs.Multiples.{cutDown, cut-multiple, cut-below}
-use Rattle.supplied.specs.Prefixes.{bitsAfter, agree}
+use Rattle.supplied.specs.Prefixes.{agree}
 
 pub record Range (W : ℕ) : Type 0 where
   pub address : ℕ
@@ -91,7 +91,7 @@ module _ (W : ℕ) where
       leb (b .low) (a .low)
       && (leb (a .high) (b .high) && (leb (b .length) (a .length) && agree W (b .length) (a .address) (b .address)))
 
-  -- b has a's prefix in its own, and a length that both allow
+  -- a's prefix lies under b's, and there is a length that both allow
   abbrev pub overlaps : Range W → Range W → Bool
   overlaps a b =
       agree W (b .length) (a .address) (b .address) && leb (max (a .low) (b .low)) (min (a .high) (b .high))

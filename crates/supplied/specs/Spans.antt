@@ -1,8 +1,8 @@
 -- Spans of the numbers up to a top: which they hold, when one is inside another, their meet and shifts.
 use mathlib.Core.Path.{_≡_, sym, subst}
 use mathlib.Core.HLevel.{isProp→PathP}
-use mathlib.Core.Bool.{Bool, true, false, cond, _&&_}
-use Prim.Native.Nat.{ℕ, _+_, _≤_, _<_, min, max}
+use mathlib.Core.Bool.{Bool, true, cond, _&&_}
+use Prim.Native.Nat.{ℕ, _+_, _≤_, min, max}
 use native.Mathlib.Bridge.{le-prop}
 use native.Mathlib.Omega.{arith}
 use lib.Dec.{leb, eqb}

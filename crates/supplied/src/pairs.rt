@@ -1,5 +1,4 @@
 // Pairs of two families: a pair of regions holds a pair of points, part by part.
-ghost use mathlib.Core.Path.{_≡_};
 ghost use Rattle.supplied.specs.Pairs.{pair, pairAxes, pairHolds, pairInside, pairMeet, pairShifted};
 ghost use Rattle.supplied.specs.PairLaws.{pair-laws};
 use crate::ranges::PrefixRange;

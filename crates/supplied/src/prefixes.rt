@@ -1,6 +1,6 @@
 // The two parts of an address: the bits of a prefix, and the bits after it.
 ghost use mathlib.Core.Path.{_≡_};
-ghost use Prim.Native.Nat.{_-_, _/_, _%_, _^_, _≤_};
+ghost use Prim.Native.Nat.{_≤_};
 ghost use Rattle.supplied.specs.Prefixes.{firstBits, bitsAfter, agree};
 
 // The bits of the address after the first `length`.

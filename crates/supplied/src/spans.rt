@@ -2,6 +2,7 @@
 ghost use Prim.Native.Nat.{_≤_};
 
 mod making;
+mod parts;
 mod questions;
 
 pub use questions::SpanFamily;

@@ -1,6 +1,4 @@
 // Prefix ranges as a family: what is asked of them and of routes.
-ghost use mathlib.Core.Path.{_≡_};
-ghost use Prim.Native.Nat.{_≤_};
 ghost use Rattle.supplied.specs.PrefixRanges.{wholePrefix, firstOfRoutes, prefixHolds, prefixInside, prefixMeet, routeShifted, prefix-laws};
 use super::PrefixRange;
 use crate::prefixes::same_prefix;

@@ -1,11 +1,9 @@
 // Making a span or a number that it may hold, and reading their numbers.
 ghost use mathlib.Core.Path.{_≡_};
-ghost use Rattle.supplied.specs.Spans.{shiftedNumber};
 ghost use Rattle.supplied.specs.MadeSpans.{madeSpan, madePoint};
 use super::Span;
 use super::SpanPoint;
 use crate::errors::MakeError;
-use family::Edge;
 
 impl<const TOP: u32> Span<TOP> {
     pub fn new(low: u32, high: u32) -> Result<Span<TOP>, MakeError>
@@ -30,22 +28,6 @@ impl<const TOP: u32> Span<TOP> {
         ensures { λ r. ⌜ r ≡ self .entry .high ⌝ }
     {
         self.high
-    }
-
-    // A number moved to an edge; one past the top is left.
-    pub(crate) fn shifted_number(self, value: u32, edge: Edge) -> u32
-        ensures { λ r. ⌜ r ≡ shiftedNumber TOP (self .entry) edge value ⌝ }
-    {
-        match edge {
-            Edge::Near => self.low,
-            Edge::Far => {
-                if self.high < TOP {
-                    self.high + 1
-                } else {
-                    value
-                }
-            }
-        }
     }
 }
 

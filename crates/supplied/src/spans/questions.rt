@@ -1,5 +1,4 @@
 // Spans as a family: what is asked of them and of their numbers.
-ghost use mathlib.Core.Path.{_≡_};
 ghost use Rattle.supplied.specs.Spans.{wholeSpan, firstNumber, spanHolds, spanInside, spanMeet, spanShifted};
 ghost use Rattle.supplied.specs.SpanLaws.{span-laws};
 use super::Span;

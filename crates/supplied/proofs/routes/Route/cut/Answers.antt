@@ -1,5 +1,5 @@
 -- What is cut has no bit after its length.
-use mathlib.Core.Path.{_≡_, ap, _∙_}
+use mathlib.Core.Path.{ap, _∙_}
 use Prim.Native.Nat.{ℕ, _-_, _%_, _^_}
 use native.Mathlib.Omega.{arith}
 use Rattle.supplied.specs.Multiples.{cut-multiple}

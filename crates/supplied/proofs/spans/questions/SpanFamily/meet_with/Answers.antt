@@ -1,5 +1,5 @@
 -- What is made is the span of the numbers that both hold.
-use mathlib.Core.Path.{_≡_, sym}
+use mathlib.Core.Path.{sym}
 use Prim.Native.Nat.{_≤_, min, max}
 use native.Mathlib.Omega.{arith}
 use lib.Dec.{leb}
