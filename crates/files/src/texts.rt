@@ -1,6 +1,11 @@
 // The text of a comparison of two files of prefix ranges with route actions.
 ghost use mathlib.Core.Path.{_≡_};
 ghost use lib.ListN.{take};
+ghost use Rattle.std.specs.Of.Vec.{vec-items};
+ghost use Rattle.std.specs.Vec.{made};
+ghost use Rattle.supplied.specs.Actions.{rejected};
+ghost use Rattle.filter.specs.States.{sealedView};
+ghost use Rattle.files.specs.Printed.{reportText, comparedText, printedText};
 use compare::Report;
 use compare::Row;
 use compare::compare;
@@ -32,7 +37,9 @@ fn reported(
     holes: &[usize],
     left_clauses: usize,
     right_clauses: usize,
-) -> Result<Vec<u8>, AllocError> {
+) -> Result<Vec<u8>, AllocError>
+    ensures { λ r. ⌜ made r (λ v. vec-items v ≡ reportText outcome (now (regions .entry)) (now (rows .entry)) (now (holes .entry)) «left_clauses» «right_clauses») ⌝ }
+{
     match outcome {
         Ok(report) => listing_text(
             heap,
@@ -42,9 +49,12 @@ fn reported(
             left_clauses,
             right_clauses,
         ),
-        Err(declined) => declined_text(heap, Declined::Comparison {
-            number: declined.number(),
-        }),
+        Err(declined) => declined_text(
+            heap,
+            Declined::Comparison {
+                number: declined.number(),
+            },
+        ),
     }
 }
 
@@ -57,7 +67,13 @@ fn front<T>(places: &[T], count: usize) -> &[T]
 }
 
 // The text of a comparison of two sealed filters.
-fn compared(heap: Global, left: &Sealed<PrefixRange, RouteAction>, right: &Sealed<PrefixRange, RouteAction>) -> Result<Vec<u8>, AllocError> {
+fn compared(
+    heap: Global,
+    left: &Sealed<PrefixRange, RouteAction>,
+    right: &Sealed<PrefixRange, RouteAction>,
+) -> Result<Vec<u8>, AllocError>
+    ensures { λ r. ⌜ made r (λ v. vec-items v ≡ comparedText (sealedView rejected (now (left .entry))) (sealedView rejected (now (right .entry)))) ⌝ }
+{
     let mut regions = [PrefixRange::whole_region(); 1024];
     let mut rows = [Row {
         left: 0,
@@ -68,11 +84,21 @@ fn compared(heap: Global, left: &Sealed<PrefixRange, RouteAction>, right: &Seale
     }; 1024];
     let mut holes = [0; 4096];
     let outcome = compare(left, right, &mut regions, &mut rows, &mut holes);
-    reported(heap, outcome, &regions, &rows, &holes, left.clauses().len(), right.clauses().len())
+    reported(
+        heap,
+        outcome,
+        &regions,
+        &rows,
+        &holes,
+        left.clauses().len(),
+        right.clauses().len(),
+    )
 }
 
 // What is printed for two files: the listing, or the line of what was declined first.
-pub fn printed(heap: Global, left: &[u8], right: &[u8]) -> Result<Vec<u8>, AllocError> {
+pub fn printed(heap: Global, left: &[u8], right: &[u8]) -> Result<Vec<u8>, AllocError>
+    ensures { λ r. ⌜ made r (λ v. vec-items v ≡ printedText (now (left .entry)) (now (right .entry))) ⌝ }
+{
     let place = Clause {
         region: PrefixRange::whole_region(),
         action: RouteAction::Reject,
@@ -81,17 +107,23 @@ pub fn printed(heap: Global, left: &[u8], right: &[u8]) -> Result<Vec<u8>, Alloc
     let mut right_places = [place; 65];
     let mut left_draft = Draft::new(&mut left_places);
     if let Err(fault) = left_draft.load(CODE, left) {
-        return declined_text(heap, Declined::Left {
-            number: fault.number(),
-            place: fault.place,
-        });
+        return declined_text(
+            heap,
+            Declined::Left {
+                number: fault.number(),
+                place: fault.place,
+            },
+        );
     }
     let mut right_draft = Draft::new(&mut right_places);
     if let Err(fault) = right_draft.load(CODE, right) {
-        return declined_text(heap, Declined::Right {
-            number: fault.number(),
-            place: fault.place,
-        });
+        return declined_text(
+            heap,
+            Declined::Right {
+                number: fault.number(),
+                place: fault.place,
+            },
+        );
     }
     compared(heap, &left_draft.seal(), &right_draft.seal())
 }

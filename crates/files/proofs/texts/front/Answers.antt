@@ -13,6 +13,6 @@ returns g c =
     let end : c .min-end .result - 0 ≡ c .min-end .result = omega arith in
     ap (λ k. take k places) end
     ∙ ⊎-elim
-        (λ less. ap (λ k. take k places) (omega (arith, c .min-end .ensures)))
-        (λ more. take-all (c .min-end .result) places (omega (arith, c .min-end .ensures)) ∙ sym (take-all (c .args .count) places more))
-        (cases-lt (c .args .count) (length places))
+    (λ less. ap (λ k. take k places) (omega (arith, c .min-end .ensures)))
+    (λ more. take-all (c .min-end .result) places (omega (arith, c .min-end .ensures)) ∙ sym (take-all (c .args .count) places more))
+    (cases-lt (c .args .count) (length places))
