@@ -13,7 +13,7 @@ use Rattle.std.specs.declared.result.Result.the-variants.{Ok, Err}
 use Rattle.family.specs.declared.clauses.Clause.{Clause}
 use Rattle.records.specs.declared.faults.Fault.{Fault}
 use Rattle.records.specs.declared.faults.Part.the-variants.{Head, Clause as InClause, Default}
-use Rattle.records.specs.AcceptedFiles.{Lying, none, next, Accepted, Rightly}
+use Rattle.records.specs.AcceptedFiles.{Laid, none, next, Accepted, Rightly}
 use Rattle.records.specs.Files.{headOf, inPart, clauseOf, clausesOf, defaultOf, fileOf, answerOf, placesAfter}
 use Rattle.records.specs.Reading.{Read, _>>=_}
 use Rattle.records.proofs.ClauseTurns.{clauses-count}
@@ -23,33 +23,33 @@ use Rattle.records.proofs.Seen.{same-parts}
 use Rattle.records.proofs.WholeFiles.{file-from}
 
 module _ {R A : Type 0} (regionOf : List ℕ → Read R) (actionOf : List ℕ → Read A) where
-  clause-lies : (bytes rest last : List ℕ) (clause : Clause R A) (clauses : List (Clause R A)) → clauseOf regionOf actionOf bytes ≡ Ok (clause, rest) → Lying regionOf actionOf rest clauses last → Lying regionOf actionOf bytes (clause ∷ clauses) last
-  clause-lies bytes rest last clause clauses read later =
+  clause-laid : (bytes rest last : List ℕ) (clause : Clause R A) (clauses : List (Clause R A)) → clauseOf regionOf actionOf bytes ≡ Ok (clause, rest) → Laid regionOf actionOf rest clauses last → Laid regionOf actionOf bytes (clause ∷ clauses) last
+  clause-laid bytes rest last clause clauses read later =
       let region = both-steps (regionOf bytes) _ _ read in
       let action = both-steps (actionOf (region .0 .1)) _ _ (region .2) in
       let parts = same-parts (action .2) in
-      subst (λ c. Lying regionOf actionOf bytes (c ∷ clauses) last) (parts .0)
-      (next (region .1) (action .1) (subst (λ b. Lying regionOf actionOf b clauses last) (sym (parts .1)) later))
+      subst (λ c. Laid regionOf actionOf bytes (c ∷ clauses) last) (parts .0)
+      (next (region .1) (action .1) (subst (λ b. Laid regionOf actionOf b clauses last) (sym (parts .1)) later))
 
-  lies : (total count number : ℕ) (bytes : List ℕ) (clauses : List (Clause R A)) (last : List ℕ) → clausesOf regionOf actionOf total count number bytes ≡ Ok (clauses, last) → Lying regionOf actionOf bytes clauses last
-  lies total zero number bytes clauses last same =
+  all-laid : (total count number : ℕ) (bytes : List ℕ) (clauses : List (Clause R A)) (last : List ℕ) → clausesOf regionOf actionOf total count number bytes ≡ Ok (clauses, last) → Laid regionOf actionOf bytes clauses last
+  all-laid total zero number bytes clauses last same =
       let parts = same-parts same in
-      subst (λ l. Lying regionOf actionOf bytes l last) (parts .0)
-      (subst (λ b. Lying regionOf actionOf bytes [] b) (parts .1) none)
-  lies total (suc count) number bytes clauses last same =
+      subst (λ l. Laid regionOf actionOf bytes l last) (parts .0)
+      (subst (λ b. Laid regionOf actionOf bytes [] b) (parts .1) none)
+  all-laid total (suc count) number bytes clauses last same =
       let first = both-steps (inPart total (InClause number) (clauseOf regionOf actionOf bytes)) _ _ same in
       let later = both-steps (clausesOf regionOf actionOf total count (number + 1) (first .0 .1)) _ _ (first .2) in
       let parts = same-parts (later .2) in
-      let rest = lies total count (number + 1) (first .0 .1) (later .0 .0) (later .0 .1) (later .1) in
-      subst (λ l. Lying regionOf actionOf bytes l last) (parts .0)
-      (clause-lies bytes (first .0 .1) last (first .0 .0) (later .0 .0) (part-read total (InClause number) _ _ (first .1)) (subst (λ b. Lying regionOf actionOf (first .0 .1) (later .0 .0) b) (parts .1) rest))
+      let rest = all-laid total count (number + 1) (first .0 .1) (later .0 .0) (later .0 .1) (later .1) in
+      subst (λ l. Laid regionOf actionOf bytes l last) (parts .0)
+      (clause-laid bytes (first .0 .1) last (first .0 .0) (later .0 .0) (part-read total (InClause number) _ _ (first .1)) (subst (λ b. Laid regionOf actionOf (first .0 .1) (later .0 .0) b) (parts .1) rest))
 
-  all-taken : {bytes last : List ℕ} {clauses : List (Clause R A)} → Lying regionOf actionOf bytes clauses last → (total number : ℕ) → clausesOf regionOf actionOf total (length clauses) number bytes ≡ Ok (clauses, last)
+  all-taken : {bytes last : List ℕ} {clauses : List (Clause R A)} → Laid regionOf actionOf bytes clauses last → (total number : ℕ) → clausesOf regionOf actionOf total (length clauses) number bytes ≡ Ok (clauses, last)
   all-taken none total number = refl
   all-taken (next region action later) total number = rw (region, action, all-taken later total (number + 1))
 
-  default-lies : (total : ℕ) (bytes : List ℕ) (action : A) → defaultOf actionOf total bytes ≡ Ok action → actionOf bytes ≡ Ok (action, [])
-  default-lies total bytes action same =
+  default-laid : (total : ℕ) (bytes : List ℕ) (action : A) → defaultOf actionOf total bytes ≡ Ok action → actionOf bytes ≡ Ok (action, [])
+  default-laid total bytes action same =
       let read = both-steps (inPart total Default (actionOf bytes)) _ action same in
       let end = passed (eqb (length (read .0 .1)) 0) _ _ action (read .2) in
       let last : read .0 .0 ≡ action = cc in
@@ -66,8 +66,8 @@ module _ {R A : Type 0} (regionOf : List ℕ → Read R) (actionOf : List ℕ �
           body = body;
           last = rest;
           head = told .bytes-are ∙ ap (λ n. code ∷ n ∷ body) (sym size);
-          lying = lies (length bytes) count 0 body clauses rest read;
-          default = default-lies (length bytes) rest action last;
+          laid = all-laid (length bytes) count 0 body clauses rest read;
+          default = default-laid (length bytes) rest action last;
           limit = omega arith;
           room = omega arith;
         }
@@ -86,7 +86,7 @@ module _ {R A : Type 0} (regionOf : List ℕ → Read R) (actionOf : List ℕ �
     read-if-accepted clauses action file =
         file-from regionOf actionOf code memory bytes (length clauses) (file .body) (file .last) action clauses
         (ap (headOf code memory) (file .head) ∙ head-taken code memory (length clauses) (file .body) (file .limit) (file .room))
-        (all-taken (file .lying) (length bytes) 0) (rw (file .default))
+        (all-taken (file .laid) (length bytes) 0) (rw (file .default))
 
     rightly-answered : (r : Result (ℕ × A) Fault) (entry places : List (Clause R A)) → r ≡ answerOf (fileOf regionOf actionOf code memory bytes) → places ≡ placesAfter entry (fileOf regionOf actionOf code memory bytes) → Rightly regionOf actionOf code memory bytes r places
     rightly-answered r entry places answer after = told (fileOf regionOf actionOf code memory bytes) refl

@@ -10,10 +10,10 @@ use Rattle.records.specs.declared.faults.Fault.{Fault}
 use Rattle.records.specs.Reading.{Read}
 
 module _ {R A : Type 0} (regionOf : List ℕ → Read R) (actionOf : List ℕ → Read A) where
-  -- clauses that lie one behind the other in front of the last bytes
-  pub data Lying : List ℕ → List (Clause R A) → List ℕ → Type 0 where
-    none : {bytes : List ℕ} → Lying bytes [] bytes
-    next : {bytes middle rest last : List ℕ} {region : R} {action : A} {clauses : List (Clause R A)} → regionOf bytes ≡ Ok (region, middle) → actionOf middle ≡ Ok (action, rest) → Lying rest clauses last → Lying bytes (record { region = region; action = action } ∷ clauses) last
+  -- clauses laid one behind the other in front of the last bytes
+  pub data Laid : List ℕ → List (Clause R A) → List ℕ → Type 0 where
+    none : {bytes : List ℕ} → Laid bytes [] bytes
+    next : {bytes middle rest last : List ℕ} {region : R} {action : A} {clauses : List (Clause R A)} → regionOf bytes ≡ Ok (region, middle) → actionOf middle ≡ Ok (action, rest) → Laid rest clauses last → Laid bytes (record { region = region; action = action } ∷ clauses) last
 
   -- a file of the family of this code, with these clauses and this default, that so many places take in
   pub record Accepted (code memory : ℕ) (bytes : List ℕ) (clauses : List (Clause R A)) (action : A) : Type 0 where
@@ -21,7 +21,7 @@ module _ {R A : Type 0} (regionOf : List ℕ → Read R) (actionOf : List ℕ �
     pub last : List ℕ
     -- the family code and the number of clauses, then the clauses, then the default, and no byte behind it
     pub head : bytes ≡ code ∷ length clauses ∷ body
-    pub lying : Lying body clauses last
+    pub laid : Laid body clauses last
     pub default : actionOf last ≡ Ok (action, [])
     -- at most 64 clauses, and a place left for the default
     pub limit : length clauses ≤ 64

@@ -41,7 +41,7 @@ pub struct Fault {
 
 impl RecordFault {
     // The bytes end early.
-    pub fn short() -> RecordFault
+    pub(crate) fn short() -> RecordFault
         ensures { λ r. ⌜ r ≡ endsEarly ⌝ }
     {
         RecordFault {
@@ -51,7 +51,7 @@ impl RecordFault {
     }
 
     // A fault at the first of these bytes.
-    pub fn at(kind: FaultKind, bytes: &[u8]) -> RecordFault
+    pub(crate) fn at(kind: FaultKind, bytes: &[u8]) -> RecordFault
         ensures { λ r. ⌜ r ≡ faultAt kind (now (bytes .entry)) ⌝ }
     {
         RecordFault {
@@ -61,7 +61,7 @@ impl RecordFault {
     }
 
     // The same fault in a part of a file of so many bytes.
-    pub fn in_part(self, part: Part, total: usize) -> Fault
+    pub(crate) fn in_part(self, part: Part, total: usize) -> Fault
         ensures { λ r. ⌜ r ≡ faultIn total part self ⌝ }
     {
         Fault {

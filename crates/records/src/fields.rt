@@ -36,20 +36,20 @@ pub fn read_u32(bytes: &[u8]) -> Result<(u32, &[u8]), RecordFault>
 pub fn given_u8(bytes: &[u8], absent: u8) -> Result<(u8, &[u8]), RecordFault>
     ensures { λ r. ⌜ seen r ≡ givenOf 1 absent (now (bytes .entry)) ⌝ }
 {
-    let (value, rest) = read_u8(bytes)?;
-    if value == absent {
+    let (byte, rest) = read_u8(bytes)?;
+    if byte == absent {
         return Err(RecordFault::at(FaultKind::AbsentValue, bytes));
     }
-    Ok((value, rest))
+    Ok((byte, rest))
 }
 
 // A field of four bytes that must not equal its absent value.
 pub fn given_u32(bytes: &[u8], absent: u32) -> Result<(u32, &[u8]), RecordFault>
     ensures { λ r. ⌜ seen r ≡ givenOf 4 absent (now (bytes .entry)) ⌝ }
 {
-    let (value, rest) = read_u32(bytes)?;
-    if value == absent {
+    let (word, rest) = read_u32(bytes)?;
+    if word == absent {
         return Err(RecordFault::at(FaultKind::AbsentValue, bytes));
     }
-    Ok((value, rest))
+    Ok((word, rest))
 }

@@ -17,7 +17,7 @@ use crate::recorded::RecordedAction;
 use family::Clause;
 
 // How many clauses a file may have.
-pub const LIMIT: u8 = 64;
+const LIMIT: u8 = 64;
 
 // How many of so many places are used for clauses: all but one for the default, and at most the limit.
 fn usable_places(memory: usize) -> usize
