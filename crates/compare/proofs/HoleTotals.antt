@@ -2,13 +2,13 @@
 use mathlib.Core.Path.{_≡_, refl, ap, subst}
 use mathlib.Core.Bool.{Bool, true, false, cond}
 use mathlib.Core.List.{List, [], _∷_, _++_}
-use Prim.Native.Nat.{ℕ, suc, _+_, _≤_}
+use Prim.Native.Nat.{ℕ, suc, _+_, _≤_, _<_}
 use native.Mathlib.Omega.{arith}
 use lib.ListN.{length, take, drop, length-append}
 use Rattle.std.specs.declared.option.Option.{Option}
 use Rattle.std.specs.declared.option.Option.the-variants.{Some, None}
 use Rattle.std.specs.Iters.{folded}
-use Rattle.std.specs.shelf.Lists.{All, kept-by, sumBy}
+use Rattle.std.specs.shelf.Lists.{All, sumBy}
 use Rattle.std.proofs.shelf.Elements.{all-take, all-drop, all-append, all-weaker}
 use Rattle.std.proofs.shelf.Sums.{sumBy-cons, length-kept-by, countBy-le-length}
 use Rattle.family.specs.Lists.{firstWhere}
@@ -16,8 +16,10 @@ use Rattle.family.specs.declared.clauses.Clause.{Clause}
 use Rattle.family.specs.declared.edges.Edge.{Edge}
 use Rattle.compare.specs.declared.rows.Row.{Row}
 use Rattle.compare.specs.Cells.{regionAt, numbers, holesOf, nested, topmost, below, occupied}
-use Rattle.compare.specs.Rows.{precedes, ranked, rankedSome, laid, alikeAt, rowFor, rowAt, rankedFrom, rowsFound, addHoles, holesOfRows}
+use Rattle.compare.specs.Rows.{precedes, ranked, rankedSome, laid, alikeAt, rowFor, rowAt, rowsFound, addHoles, holesOfRows}
 use Rattle.compare.proofs.LaidOut.{holeCount}
+use Rattle.compare.proofs.Members.{numbers-within}
+use Rattle.compare.proofs.Placed.{folded-keeps}
 
 pub length-numbers : {X : Type 0} (i : ℕ) (xs : List X) → length (numbers i xs) ≡ length xs
 length-numbers i [] = refl
@@ -34,6 +36,10 @@ one-way : {X : Type 0} (b c : Bool) (x y : X) → cond b None (cond c (Some x) N
 one-way false true x y e = (refl, refl, (cc))
 one-way false false x y e = let z : _≡_ {A = ℕ} 0 1 = cc in absurd (omega arith)
 one-way true c x y e = let z : _≡_ {A = ℕ} 0 1 = cc in absurd (omega arith)
+
+pub some-ranked : (P : Row → Type 0) (rows : List Row) (o : Option Row) → All P rows → ((row : Row) → o ≡ Some row → P row) → All P (rankedSome rows o)
+some-ranked P rows None all one = all
+some-ranked P rows (Some row) all one = ranked-all P rows row all (one row refl)
 
 module _ {R : Type 0} (inside : R → R → Bool) (whole : R) (xs : List R) where
   -- a region has no more holes than there are listed regions
@@ -84,24 +90,16 @@ module _ {R P A : Type 0} (whole : R) (first : P) (axes : ℕ) (holds : R → P 
   abbrev found : List Row
   found = rowsFound whole first axes holds inside shifted alike xs left left-default right right-default
 
-  some-ranked : (Q : Row → Type 0) (rows : List Row) (o : Option Row) → All Q rows → ((row : Row) → o ≡ Some row → Q row) → All Q (rankedSome rows o)
-  some-ranked Q rows None all one = all
-  some-ranked Q rows (Some row) all one = ranked-all Q rows row all (one row refl)
-
-  ranked-from-all : (Q : Row → Type 0) → ((n : ℕ) (row : Row) → rowOf n ≡ Some row → Q row) → (rows : List Row) (ns : List ℕ) → All Q rows → All Q (rankedFrom whole first axes holds inside shifted alike xs left left-default right right-default rows ns)
-  ranked-from-all Q each rows [] all = all
-  ranked-from-all Q each rows (n ∷ ns) all = ranked-from-all Q each (rankedSome rows (rowOf n)) ns (some-ranked Q rows (rowOf n) all (each n))
-
   -- what holds of the row of each listed region holds of all rows
-  pub found-all : (Q : Row → Type 0) → ((n : ℕ) (row : Row) → rowOf n ≡ Some row → Q row) → All Q found
-  found-all Q each = ranked-from-all Q each [] (numbers 0 xs) tt
+  pub found-all : (Q : Row → Type 0) → ((n : ℕ) (row : Row) → n < length xs → rowOf n ≡ Some row → Q row) → All Q found
+  found-all Q each = folded-keeps (λ so-far n. rankedSome so-far (rowOf n)) (All Q) (numbers 0 xs) (λ rows n m all. some-ranked Q rows (rowOf n) all (λ row e. let k = numbers-within 0 n xs m in each n row (omega (arith, k .1)) e)) [] tt
 
   -- a listed region's row stands when its cell is treated unlike and holds a point
   pub row-parts : (n : ℕ) (row : Row) → rowOf n ≡ Some row → (alikeHere (regionAt whole xs n) ≡ false) × (occupiedHere n ≡ true) × (rowHere n (regionAt whole xs n) ≡ row)
   row-parts n row e = one-way (alikeHere (regionAt whole xs n)) (occupiedHere n) (rowHere n (regionAt whole xs n)) row e
 
-  row-counted : (n : ℕ) (row : Row) → rowOf n ≡ Some row → Counted inside whole xs row
-  row-counted n row e = subst (Counted inside whole xs) (row-parts n row e .2) refl
+  row-counted : (n : ℕ) (row : Row) → n < length xs → rowOf n ≡ Some row → Counted inside whole xs row
+  row-counted n row h e = subst (Counted inside whole xs) (row-parts n row e .2) refl
 
   pub found-counted : All (Counted inside whole xs) found
   found-counted = found-all (Counted inside whole xs) row-counted
