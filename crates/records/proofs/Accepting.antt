@@ -1,8 +1,7 @@
 -- A file is read exactly when it is accepted.
 use mathlib.Core.Path.{_≡_, refl, sym, ap, subst, _∙_}
-use mathlib.Core.Bool.{true, false}
 use mathlib.Core.List.{List, [], _∷_, _++_}
-use Prim.Native.Nat.{ℕ, zero, suc, _+_, _<_, _≤_}
+use Prim.Native.Nat.{ℕ, zero, suc, _+_}
 use native.Mathlib.Omega.{arith}
 use lib.Dec.{eqb}
 use lib.ListN.{length, take, drop}
@@ -15,9 +14,9 @@ use Rattle.records.specs.declared.faults.Fault.{Fault}
 use Rattle.records.specs.declared.faults.Part.the-variants.{Head, Clause as InClause, Default}
 use Rattle.records.specs.AcceptedFiles.{Laid, none, next, Accepted, Rightly}
 use Rattle.records.specs.Files.{headOf, inPart, clauseOf, clausesOf, defaultOf, fileOf, answerOf, placesAfter}
-use Rattle.records.specs.Reading.{Read, _>>=_}
+use Rattle.records.specs.Reading.{Read}
 use Rattle.records.proofs.ClauseTurns.{clauses-count}
-use Rattle.records.proofs.Heads.{HeadRead, head-read, head-taken}
+use Rattle.records.proofs.Heads.{head-read, head-taken}
 use Rattle.records.proofs.Inversion.{both-steps, passed, part-read, never-read}
 use Rattle.records.proofs.Seen.{same-parts}
 use Rattle.records.proofs.WholeFiles.{file-from}

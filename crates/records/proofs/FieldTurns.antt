@@ -1,12 +1,10 @@
 -- The fields of a map, one turn at a time: the field of the lowest one, then those of the others.
-use mathlib.Core.Path.{_≡_, refl, ap, _∙_}
-use mathlib.Core.List.{List, []}
+use mathlib.Core.Path.{_≡_, ap, _∙_}
+use mathlib.Core.List.{List}
 use Prim.Native.Nat.{ℕ, _-_, _^_, _<_}
-use native.Mathlib.Omega.{arith}
 use lib.Bits.{bitAnd}
 use lib.Count.{ones, trailingZeros}
 use Rattle.std.proofs.shelf.Lists.{nil-from-length}
-use Rattle.std.specs.declared.result.Result.{Result}
 use Rattle.std.specs.declared.result.Result.the-variants.{Ok, Err}
 use Rattle.records.specs.declared.faults.RecordFault.{RecordFault}
 use Rattle.records.specs.Layouts.{fieldsOf, placesOf}

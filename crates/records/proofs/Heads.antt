@@ -1,8 +1,8 @@
 -- A file's head is read exactly where the code fits, the count is in its limit, and there is room.
-use mathlib.Core.Path.{_≡_, refl, sym, ap, _∙_}
+use mathlib.Core.Path.{_≡_, refl, ap, _∙_}
 use mathlib.Core.Bool.{true, false}
 use mathlib.Core.List.{List, [], _∷_}
-use Prim.Native.Nat.{ℕ, _+_, _-_, _*_, _<_, _≤_, min}
+use Prim.Native.Nat.{ℕ, _+_, _<_, _≤_}
 use native.Mathlib.Nat.{zero-add}
 use native.Mathlib.Omega.{arith}
 use lib.Dec.{eqb, ltb}
@@ -10,7 +10,6 @@ use Rattle.std.proofs.shelf.Tests.{eqb-true, eqb-false, eq-eqb, ne-eqb, ltb-fal
 use Rattle.std.specs.declared.result.Result.the-variants.{Ok, Err}
 use Rattle.records.specs.declared.faults.FaultKind.the-variants.{OtherFamily}
 use Rattle.records.specs.Faults.{faultAt, endsEarly}
-use Rattle.records.specs.Fields.{fieldOf}
 use Rattle.records.specs.Files.{usablePlaces, lacksPlaces, headOf}
 use Rattle.records.proofs.Inversion.{passed, not-refused, never-read}
 use Rattle.records.proofs.Seen.{same-parts}

@@ -1,16 +1,14 @@
 -- What a reading that succeeded says of its steps.
-use mathlib.Core.Path.{_≡_, refl, sym, ap, _∙_}
+use mathlib.Core.Path.{_≡_, refl, ap}
 use mathlib.Core.Bool.{Bool, true, false, cond}
-use mathlib.Core.List.{List, [], _∷_}
+use mathlib.Core.List.{List}
 use Prim.Native.Nat.{ℕ}
 use native.Mathlib.Omega.{arith}
 use Rattle.std.specs.declared.result.Result.{Result}
 use Rattle.std.specs.declared.result.Result.the-variants.{Ok, Err}
 use Rattle.records.specs.declared.faults.Part.{Part}
-use Rattle.records.specs.Fields.{fieldOf}
 use Rattle.records.specs.Files.{inPart}
 use Rattle.records.specs.Reading.{Read, _>>=_}
-use Rattle.records.proofs.Seen.{same-parts}
 
 module _ {X E : Type 0} where
   pub never-read : {fault : E} {x : X} → _≡_ {A = Result X E} (Err fault) (Ok x) → ⊥
@@ -33,10 +31,3 @@ module _ {X E : Type 0} where
 pub part-read : {X : Type 0} (total : ℕ) (part : Part) (r : Read X) (p : X × List ℕ) → inPart total part r ≡ Ok p → r ≡ Ok p
 part-read total part (Ok q) p same = let both : q ≡ p = cc in ap Ok both
 part-read total part (Err fault) p same = absurd (never-read same)
-
-pub byte-read : (bytes : List ℕ) (value : ℕ) (rest : List ℕ) → fieldOf 1 bytes ≡ Ok (value, rest) → bytes ≡ value ∷ rest
-byte-read [] value rest same = absurd (never-read same)
-byte-read (b ∷ bytes) value rest same =
-    let parts = same-parts same in
-    let first : b ≡ value = omega (arith, parts .0) in
-    ap (λ v. v ∷ bytes) first ∙ ap (λ l. value ∷ l) (parts .1)

@@ -1,13 +1,13 @@
 -- The bytes that the record of a prefix range and that of a route action take.
-use mathlib.Core.Path.{_≡_, refl, sym, ap, subst, _∙_}
-use mathlib.Core.Bool.{true, false, cond, _&&_}
-use mathlib.Core.Logic.{_⊎_, ⊎-elim}
+use mathlib.Core.Path.{_≡_, refl, _∙_}
+use mathlib.Core.Bool.{true, cond, _&&_}
+use mathlib.Core.Logic.{⊎-elim}
 use mathlib.Core.List.{List, [], _∷_}
-use Prim.Native.Nat.{ℕ, zero, suc, _+_, _-_, _*_, _/_, _%_, _^_, _<_, _≤_}
+use Prim.Native.Nat.{ℕ, zero, suc, _+_, _-_, _*_, _/_, _%_, _<_, _≤_}
 use native.Mathlib.Omega.{arith}
 use lib.Count.{ones, ones-step}
 use lib.Dec.{eqb, ltb}
-use lib.ListN.{length, getD}
+use lib.ListN.{length}
 use Rattle.std.proofs.shelf.Tests.{eqb-true, ltb-true, ne-eqb, or-cases, and-parts}
 use Rattle.std.specs.declared.result.Result.{Result}
 use Rattle.supplied.specs.declared.actions.RouteAction.{RouteAction}
@@ -15,10 +15,10 @@ use Rattle.supplied.specs.declared.ranges.PrefixRange.{PrefixRange}
 use Rattle.records.specs.declared.actions.ActionNumbers.{ActionNumbers}
 use Rattle.records.specs.declared.faults.RecordFault.{RecordFault}
 use Rattle.records.specs.declared.ranges.RangeNumbers.{RangeNumbers}
-use Rattle.records.specs.ActionRecords.{actionNumbers, actionField, actionLayout, isAccept}
+use Rattle.records.specs.ActionRecords.{actionField, actionLayout, isAccept}
 use Rattle.records.specs.Fields.{fieldOf, givenOf}
 use Rattle.records.specs.Layouts.{placesFrom, placesOf, recordOf}
-use Rattle.records.specs.RangeRecords.{rangeNumbers, rangeField, rangeLayout}
+use Rattle.records.specs.RangeRecords.{rangeField, rangeLayout}
 use Rattle.records.specs.Reading.{outcomeOf, restOf}
 use Rattle.records.specs.Sizes.{rangeSize, actionSize, TookBytes}
 use Rattle.records.proofs.Places.{parity, at-odd, at-even, count-places, places-count}

@@ -1,12 +1,10 @@
 -- The bytes that a record takes, from the fields of its layout.
 use mathlib.Core.Path.{_≡_, refl, sym, ap, subst, _∙_}
-use mathlib.Core.Bool.{true, false, cond}
-use mathlib.Core.Logic.{_⊎_, inl, inr, ⊎-elim}
+use mathlib.Core.Bool.{true}
 use mathlib.Core.List.{List, [], _∷_}
-use Prim.Native.Nat.{ℕ, zero, suc, _+_, _-_, _*_, _/_, _%_, _^_, _<_, _≤_}
+use Prim.Native.Nat.{ℕ, zero, suc, _+_, _*_}
 use native.Mathlib.Nat.{zero-add}
 use native.Mathlib.Omega.{arith}
-use lib.Count.{ones, ones-step}
 use lib.Dec.{eqb}
 use lib.ListN.{length, getD}
 use Rattle.std.specs.declared.result.Result.{Result}
@@ -14,10 +12,10 @@ use Rattle.std.specs.declared.result.Result.the-variants.{Ok, Err}
 use Rattle.supplied.specs.declared.errors.MakeError.{MakeError}
 use Rattle.records.specs.declared.faults.RecordFault.{RecordFault}
 use Rattle.records.specs.Fields.{spelled, fieldOf, givenOf}
-use Rattle.records.specs.Layouts.{LayoutOf, placesFrom, placesOf, fieldsOf, numbersOf, madeOf, recordOf}
+use Rattle.records.specs.Layouts.{LayoutOf, placesOf, fieldsOf, numbersOf, madeOf, recordOf}
 use Rattle.records.specs.Reading.{Read, _>>=_, outcomeOf, restOf}
 use Rattle.records.specs.Sizes.{TookBytes}
-use Rattle.records.proofs.Inversion.{both-steps, passed, not-refused, never-read, byte-read}
+use Rattle.records.proofs.Inversion.{both-steps, passed, not-refused, never-read}
 use Rattle.records.proofs.Seen.{same-parts}
 
 -- a reading that takes so many bytes

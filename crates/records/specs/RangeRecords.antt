@@ -1,6 +1,6 @@
 -- The record of a prefix range: bit 0 the address, bit 1 the prefix length, bit 2 low, bit 3 high.
 use mathlib.Core.List.{List}
-use mathlib.Core.Bool.{Bool, cond}
+use mathlib.Core.Bool.{cond}
 use Prim.Native.Nat.{ℕ}
 use lib.Dec.{eqb, ltb}
 use Rattle.std.specs.declared.result.Result.the-variants.{Ok}

@@ -1,7 +1,5 @@
 // Why a record or a file is refused: what is wrong, in which part, and at which byte.
 ghost use mathlib.Core.Path.{_≡_};
-ghost use mathlib.Core.List.{[]};
-ghost use Prim.Native.Nat.{_-_};
 ghost use Rattle.records.specs.Faults.{faultNumber, causeNumber, faultAt, endsEarly, faultIn};
 use supplied::MakeError;
 

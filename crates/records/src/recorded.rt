@@ -1,5 +1,4 @@
 // Families whose regions, and action kinds whose actions, are read from bytes.
-ghost use mathlib.Core.Bool.{Bool};
 ghost use mathlib.Core.List.{List};
 ghost use mathlib.Core.Path.{_≡_};
 ghost use Prim.Native.Nat.{ℕ};

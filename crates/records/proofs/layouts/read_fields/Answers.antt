@@ -1,9 +1,8 @@
-use mathlib.Core.Path.{_≡_, sym, ap, _∙_}
+use mathlib.Core.Path.{sym, ap, _∙_}
 use native.Mathlib.Omega.{arith}
 use native.Mathlib.Nat.{zero-add}
-use Prim.Native.Nat.{_-_, _^_, _<_}
+use Prim.Native.Nat.{_-_}
 use lib.Bits.{and-le-l}
-use lib.Count.{ones}
 use Rattle.std.proofs.shelf.Results.{err-from-errBy}
 use Rattle.records.specs.Layouts.{fieldsOf, placesOf}
 use Rattle.records.proofs.FieldTurns.{field-read, field-refused, no-field}
