@@ -18,8 +18,8 @@ use records::read_file;
 // The clauses stand in the first places, the default in the last.
 #[derive(Drop)]
 pub struct Table<'a, R, A> {
-    places: &'a mut [Clause<R, A>],
-    count: usize,
+    pub(crate) places: &'a mut [Clause<R, A>],
+    pub(crate) count: usize,
 }
 
 // A place that holds a default: its region is not read.

@@ -1,0 +1,3 @@
+// Tables of examples over the calls that the programs make.
+#[cfg(test)]
+mod printing;
