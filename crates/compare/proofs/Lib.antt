@@ -1,3 +1,4 @@
+pub mod AnsweredRightly
 pub mod CellPoints
 pub mod Closed
 pub mod Extended

@@ -1,3 +1,4 @@
+pub mod Answered
 pub mod Cells
 pub mod Compared
 pub mod Declines

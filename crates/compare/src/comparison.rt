@@ -3,6 +3,7 @@ ghost use mathlib.Core.Path.{_≡_};
 ghost use Prim.Native.Nat.{_≤_};
 ghost use lib.ListN.{length};
 ghost use Rattle.filter.specs.States.{sealedView};
+ghost use Rattle.compare.specs.Answered.{Rightly};
 ghost use Rattle.compare.specs.Compared.{unlessDeclined, listFor, rowsIn, holesIn, reportOn, outcome, regionsAfter};
 use crate::regions::gather;
 use crate::reports::Declined;
@@ -73,6 +74,7 @@ pub fn compare<R: Family, A: ActionKind>(
     ensures regions { λ r. ⌜ now (regions .exit) ≡ regionsAfter whole first axes holds inside meet shifted alike (sealedView reject (now (left .entry))) (sealedView reject (now (right .entry))) (now (regions .entry)) ⌝ }
     ensures rows { λ r. ⌜ now (rows .exit) ≡ unlessDeclined r (rowsIn whole first axes holds inside meet shifted alike (sealedView reject (now (left .entry))) (sealedView reject (now (right .entry))) (listFor whole first axes holds inside meet shifted alike (sealedView reject (now (left .entry))) (sealedView reject (now (right .entry))) (length (now (regions .entry))))) (now (rows .entry)) ⌝ }
     ensures holes { λ r. ⌜ now (holes .exit) ≡ unlessDeclined r (holesIn whole first axes holds inside meet shifted alike (sealedView reject (now (left .entry))) (sealedView reject (now (right .entry))) (listFor whole first axes holds inside meet shifted alike (sealedView reject (now (left .entry))) (sealedView reject (now (right .entry))) (length (now (regions .entry))))) (now (holes .entry)) ⌝ }
+    ensures right { λ r. ⌜ Rightly whole axes holds inside alike (sealedView reject (now (left .entry))) (sealedView reject (now (right .entry))) (length (now (regions .entry))) (length (now (rows .entry))) (length (now (holes .entry))) r (now (regions .exit)) (now (rows .exit)) (now (holes .exit)) ⌝ }
 {
     if R::axis_count() > 4 {
         return Err(Declined::TooManyAxes);

@@ -36,7 +36,8 @@ impl<'a, R: Family, A: ActionKind> Draft<'a, R, A> {
         ensures memory { λ r. ⌜ now (r .table .places) ≡ now (self .entry .table .places) ⌝ }
     {
         let Draft { table } = self;
-        Sealed::over(table)
+        let Table { places, count } = table;
+        Sealed::over(places, count)
     }
 }
 

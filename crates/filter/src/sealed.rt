@@ -12,10 +12,13 @@ pub struct Sealed<'a, R, A> {
 }
 
 impl<'a, R: Family, A: ActionKind> Sealed<'a, R, A> {
-    pub(crate) fn over(table: Table<'a, R, A>) -> Sealed<'a, R, A>
-        ensures { λ r. ⌜ r .table ≡ table .entry ⌝ }
+    pub(crate) fn over(places: &'a mut [Clause<R, A>], count: usize) -> Sealed<'a, R, A>
+        ensures counted { λ r. ⌜ r .table .count ≡ count ⌝ }
+        ensures memory { λ r. ⌜ now (r .table .places) ≡ now (places .entry) ⌝ }
     {
-        Sealed { table }
+        Sealed {
+            table: Table { places, count },
+        }
     }
 
     // The clauses in their order.

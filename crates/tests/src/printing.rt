@@ -11,11 +11,26 @@ fn prints(rt: &LibcRuntime, left: &[u8], right: &[u8], text: &[u8]) -> Result<()
 #[test]
 fn listings(rt: LibcRuntime) -> Result<(), Fail> {
     // One range is shorter on the right.
-    prints(&rt, b"\x01\x01\x0b\x14\x00\x00\x00\x08\x18\x00\x01", b"\x01\x01\x0b\x14\x00\x00\x00\x08\x10\x00\x01", b"rows 1\n0 d 20.0.0.0/8 8-24 - 20.0.0.0/8 8-16\n")?;
+    prints(
+        &rt,
+        b"\x01\x01\x0b\x14\x00\x00\x00\x08\x18\x00\x01",
+        b"\x01\x01\x0b\x14\x00\x00\x00\x08\x10\x00\x01",
+        b"rows 1\n0 d 20.0.0.0/8 8-24 - 20.0.0.0/8 8-16\n",
+    )?;
     // A range of length 1 that its two halves cover: its cell is empty.
-    prints(&rt, b"\x01\x01\x04\x01\x00\x01", b"\x01\x02\x02\x01\x00\x03\x80\x00\x00\x00\x01\x00\x01", b"rows 0\n")?;
+    prints(
+        &rt,
+        b"\x01\x01\x04\x01\x00\x01",
+        b"\x01\x02\x02\x01\x00\x03\x80\x00\x00\x00\x01\x00\x01",
+        b"rows 0\n",
+    )?;
     // Two empty filters whose defaults differ.
-    prints(&rt, b"\x01\x00\x00", b"\x01\x00\x01", b"rows 1\nd d 0.0.0.0/0 0-32\n")?;
+    prints(
+        &rt,
+        b"\x01\x00\x00",
+        b"\x01\x00\x01",
+        b"rows 1\nd d 0.0.0.0/0 0-32\n",
+    )?;
     // Two ranges that overlap in their lengths.
     prints(
         &rt,
@@ -24,9 +39,19 @@ fn listings(rt: LibcRuntime) -> Result<(), Fail> {
         b"rows 2\n0 d 30.0.0.0/8 8-20 - 30.0.0.0/8 16-20\nd 0 30.0.0.0/8 16-32 - 30.0.0.0/8 16-20\n",
     )?;
     // A local preference of 100 is not alike to an absent one.
-    prints(&rt, b"\x01\x00\x03\x00\x00\x00\x64", b"\x01\x00\x01", b"rows 1\nd d 0.0.0.0/0 0-32\n")?;
+    prints(
+        &rt,
+        b"\x01\x00\x03\x00\x00\x00\x64",
+        b"\x01\x00\x01",
+        b"rows 1\nd d 0.0.0.0/0 0-32\n",
+    )?;
     // The same file twice.
-    prints(&rt, b"\x01\x01\x0b\x14\x00\x00\x00\x08\x18\x00\x01", b"\x01\x01\x0b\x14\x00\x00\x00\x08\x18\x00\x01", b"rows 0\n")
+    prints(
+        &rt,
+        b"\x01\x01\x0b\x14\x00\x00\x00\x08\x18\x00\x01",
+        b"\x01\x01\x0b\x14\x00\x00\x00\x08\x18\x00\x01",
+        b"rows 0\n",
+    )
 }
 
 #[test]
@@ -46,11 +71,31 @@ fn refusals(rt: LibcRuntime) -> Result<(), Fail> {
     prints(&rt, b"\x01\x01\x10\x00\x01", good, b"left 15 2\n")?;
     prints(&rt, good, b"\x01\x00\x02\x00\x00\x00\x00", b"right 15 2\n")?;
     // A field at its absent value: the address 0, and a high that is low.
-    prints(&rt, b"\x01\x01\x01\x00\x00\x00\x00\x00\x01", good, b"left 16 3\n")?;
-    prints(&rt, good, b"\x01\x01\x0b\x14\x00\x00\x00\x08\x08\x00\x01", b"right 16 8\n")?;
+    prints(
+        &rt,
+        b"\x01\x01\x01\x00\x00\x00\x00\x00\x01",
+        good,
+        b"left 16 3\n",
+    )?;
+    prints(
+        &rt,
+        good,
+        b"\x01\x01\x0b\x14\x00\x00\x00\x08\x08\x00\x01",
+        b"right 16 8\n",
+    )?;
     // A broken region rule is told at the map: a bit after the length, and low under the length.
-    prints(&rt, b"\x01\x01\x03\x14\x01\x00\x00\x08\x00\x01", good, b"left 17 2\n")?;
-    prints(&rt, b"\x01\x01\x07\x14\x00\x00\x00\x08\x07\x00\x01", good, b"left 17 2\n")?;
+    prints(
+        &rt,
+        b"\x01\x01\x03\x14\x01\x00\x00\x08\x00\x01",
+        good,
+        b"left 17 2\n",
+    )?;
+    prints(
+        &rt,
+        b"\x01\x01\x07\x14\x00\x00\x00\x08\x07\x00\x01",
+        good,
+        b"left 17 2\n",
+    )?;
     // Bytes left over.
     prints(&rt, good, b"\x01\x00\x01\x00", b"right 18 3\n")
 }
