@@ -18,6 +18,9 @@ use family::Clause;
 use family::Family;
 use filter::Sealed;
 
+// A family with more axes is not compared.
+const MOST_AXES: u8 = 4;
+
 // The rows of a region list and their holes, or why they have no places.
 fn report_on<R: Family, A: ActionKind>(
     listed: &[R],
@@ -76,7 +79,7 @@ pub fn compare<R: Family, A: ActionKind>(
     ensures holes { λ r. ⌜ now (holes .exit) ≡ unlessDeclined r (holesIn whole first axes holds inside meet shifted alike (sealedView reject (now (left .entry))) (sealedView reject (now (right .entry))) (listFor whole first axes holds inside meet shifted alike (sealedView reject (now (left .entry))) (sealedView reject (now (right .entry))) (length (now (regions .entry))))) (now (holes .entry)) ⌝ }
     ensures right { λ r. ⌜ Rightly whole axes holds inside alike (sealedView reject (now (left .entry))) (sealedView reject (now (right .entry))) (length (now (regions .entry))) (length (now (rows .entry))) (length (now (holes .entry))) r (now (regions .exit)) (now (rows .exit)) (now (holes .exit)) ⌝ }
 {
-    if R::axis_count() > 4 {
+    if R::axis_count() > MOST_AXES {
         return Err(Declined::TooManyAxes);
     }
     let used = regions.len().min(1024);

@@ -16,14 +16,14 @@ use Rattle.compare.proofs.Outcomes.{list-over, too-many-axes, no-region-place,
 use Rattle.compare.proofs.UsedPlaces.{too-many, front-full, few-enough, front-whole, list-read}
 use Rattle.compare.proofs.comparison.compare.Needs as need
 
-pub returns-then-axis-count-gt4 : need.returns-then-axis-count-gt4
-returns-then-axis-count-gt4 g c =
+pub returns-then-axis-count-gt-MOST-AXES : need.returns-then-axis-count-gt-MOST-AXES
+returns-then-axis-count-gt-MOST-AXES g c =
     let m = g .R·Family in
     let alike = g .A·ActionKind .alike in
     let l = sealedView (g .A·ActionKind .reject) (c .args .left .now) in
     let r = sealedView (g .A·ActionKind .reject) (c .args .right .now) in
     let old = c .args .regions .now in
-    let many : 4 < m .axes = omega (arith, c .axis-count .ensures, c .if-axis-count-gt4 .taken) in
+    let many : 4 < m .axes = omega (arith, c .axis-count .ensures, c .if-axis-count-gt-MOST-AXES .taken) in
     let told = too-many-axes (m .whole) (m .first) (m .axes) (m .holds) (m .inside) (m .meet) (m .shifted) alike l r (length old) (length (c .args .rows .now)) (length (c .args .holes .now)) many in
     let kept = regions-kept (m .whole) (m .first) (m .axes) (m .holds) (m .inside) (m .meet) (m .shifted) alike l r old many in
     record {
@@ -41,7 +41,7 @@ returns-in-rest g c =
     let l = sealedView (g .A·ActionKind .reject) (c .args .left .now) in
     let r = sealedView (g .A·ActionKind .reject) (c .args .right .now) in
     let old = c .args .regions .now in
-    let few : m .axes ≤ 4 = omega (arith, c .axis-count .ensures, c .if-axis-count-gt4 .left) in
+    let few : m .axes ≤ 4 = omega (arith, c .axis-count .ensures, c .if-axis-count-gt-MOST-AXES .left) in
     let n = c .min-used .result in
     let within : n ≤ length old = omega (arith, c .min-used .ensures) in
     let used : n ≡ usedPlaces (length old) = omega (arith, c .min-used .ensures) in
@@ -66,7 +66,7 @@ returns g c =
     let l = sealedView (g .A·ActionKind .reject) (c .args .left .now) in
     let r = sealedView (g .A·ActionKind .reject) (c .args .right .now) in
     let old = c .args .regions .now in
-    let few : m .axes ≤ 4 = omega (arith, c .axis-count .ensures, c .if-axis-count-gt4 .left) in
+    let few : m .axes ≤ 4 = omega (arith, c .axis-count .ensures, c .if-axis-count-gt-MOST-AXES .left) in
     let n = c .min-used .result in
     let within : n ≤ length old = omega (arith, c .min-used .ensures) in
     let used : n ≡ usedPlaces (length old) = omega (arith, c .min-used .ensures) in
