@@ -1,13 +1,16 @@
 -- A loop that looks through a list: what is left of the list decides, one step on and at the end.
 use mathlib.Core.Path.{_≡_, refl, sym, ap, _∙_}
 use mathlib.Core.Bool.{Bool, true, false, cond, _||_}
+use mathlib.Core.Logic.{⊎-elim}
 use mathlib.Core.List.{List, [], _∷_}
-use Prim.Native.Nat.{ℕ, suc, _+_, _≤_, _<_}
+use Prim.Native.Nat.{ℕ, zero, suc, _+_, _≤_, _<_}
 use native.Mathlib.Nat.{add-suc}
 use native.Mathlib.Omega.{arith}
 use lib.ListN.{length, getD, drop}
 use Rattle.std.proofs.shelf.Lists.{drop-more, drop-all}
-use Rattle.std.proofs.shelf.Tests.{cond-both}
+use Rattle.std.specs.declared.option.Option.the-variants.{Some}
+use Rattle.std.specs.shelf.Maps.{nth}
+use Rattle.std.proofs.shelf.Tests.{cond-both, cases-bool}
 use Rattle.family.specs.Lists.{anyOf, firstWhere}
 
 module _ {X : Type 0} (p : X → Bool) (xs : List X) (i : ℕ) where
@@ -42,3 +45,29 @@ first-bound p [] = omega arith
 first-bound p (x ∷ xs) =
     let more = first-bound p xs in
     cond-both (p x) 0 (suc (firstWhere p xs)) (λ n. n ≤ suc (length xs)) (λ _. omega arith) (λ _. omega arith)
+
+-- what stands before the first place that passes fails, and what stands at it passes
+pub first-before : {X : Type 0} (p : X → Bool) (xs : List X) (k : ℕ) (x : X) → k < firstWhere p xs → nth xs k ≡ Some x → p x ≡ false
+first-before p [] k x h e = absurd (omega arith)
+first-before p (y ∷ ys) zero x h e =
+    let same : y ≡ x = cc in
+    ⊎-elim
+    (λ t. let z : firstWhere p (y ∷ ys) ≡ 0 = ap (λ b. cond b 0 (suc (firstWhere p ys))) t in absurd (omega arith))
+    (λ f. sym (ap p same) ∙ f) (cases-bool (p y))
+first-before p (y ∷ ys) (suc k) x h e =
+    ⊎-elim
+    (λ t. let z : firstWhere p (y ∷ ys) ≡ 0 = ap (λ b. cond b 0 (suc (firstWhere p ys))) t in absurd (omega arith))
+    (λ f. let z : firstWhere p (y ∷ ys) ≡ suc (firstWhere p ys) = ap (λ b. cond b 0 (suc (firstWhere p ys))) f in first-before p ys k x (omega arith) e) (cases-bool (p y))
+
+pub first-here : {X : Type 0} (p : X → Bool) (xs : List X) (x : X) → nth xs (firstWhere p xs) ≡ Some x → p x ≡ true
+first-here p [] x e = let z : _≡_ {A = ℕ} 0 1 = cc in absurd (omega arith)
+first-here p (y ∷ ys) x e =
+    ⊎-elim
+    (λ t.
+    let z : firstWhere p (y ∷ ys) ≡ 0 = ap (λ b. cond b 0 (suc (firstWhere p ys))) t in
+    let at : Some y ≡ Some x = sym (ap (nth (y ∷ ys)) z) ∙ e in
+    let same : y ≡ x = cc in
+    sym (ap p same) ∙ t)
+    (λ f.
+    let z : firstWhere p (y ∷ ys) ≡ suc (firstWhere p ys) = ap (λ b. cond b 0 (suc (firstWhere p ys))) f in
+    first-here p ys x (sym (ap (nth (y ∷ ys)) z) ∙ e)) (cases-bool (p y))

@@ -1,12 +1,13 @@
--- Elements of a list shifted by a place, to make room for one.
+-- Elements of a list shifted by a place, to make room for one or to close a gap.
 use mathlib.Core.Path.{_≡_, refl, sym, ap, _∙_}
 use mathlib.Core.List.{List, [], _∷_, _++_, append-assoc}
-use Prim.Native.Nat.{ℕ, _+_, _-_, _≤_, _<_}
+use Prim.Native.Nat.{ℕ, suc, _+_, _-_, _≤_, _<_}
+use native.Mathlib.Numerals.{add-one}
 use native.Mathlib.Omega.{arith}
-use borrow.Rule.Slice.PartMut.{putMid}
+use borrow.Rule.Slice.PartMut.{putMid, postOf}
 use lib.ListN.{length, take, drop, set, length-take, length-drop, length-append}
-use Rattle.std.specs.shelf.Lists.{inserted}
-use Rattle.std.proofs.shelf.Lists.{take-at, drop-at, take-all, take-take, take-set-le, drop-set-lt, drop-append-le, take-more-set}
+use Rattle.std.specs.shelf.Lists.{inserted, removed}
+use Rattle.std.proofs.shelf.Lists.{take-at, drop-at, take-all, take-take, take-set-le, drop-set-lt, drop-append-le, drop-drop, take-more-set}
 use Rattle.std.proofs.shelf.Parts.{between-is, putMid-paste}
 
 module _ {X : Type 0} (xs : List X) (n i : ℕ) (x : X) (low : i ≤ n) (fits : n < length xs) where
@@ -43,3 +44,22 @@ module _ {X : Type 0} (xs : List X) (n i : ℕ) (x : X) (low : i ≤ n) (fits : 
       ∙ ap (λ f. (take i (take n xs) ++ f) ++ drop (i + m) (set xs n x)) (take-all m (x ∷ l) (omega arith))
       ∙ ap (λ k. (take i (take n xs) ++ (x ∷ l)) ++ drop k (set xs n x)) end
       ∙ ap (λ f. (take i (take n xs) ++ (x ∷ l)) ++ f) (drop-set-lt (n + 1) xs n x past)
+
+module _ {X : Type 0} (xs : List X) (n i : ℕ) (low : i < n) (fits : n ≤ length xs) where
+  -- turned by one, the part from i on has its first element at the end
+  pub remove-turns : (part : List X) → part ≡ drop 1 (take (n - i) (drop i xs)) ++ take 1 (take (n - i) (drop i xs)) → putMid i (n - i) xs part ≡ removed (take n xs) i ++ (take 1 (drop i xs) ++ drop n xs)
+  remove-turns part e =
+      let behind : drop 1 (take (n - i) (drop i xs)) ≡ drop (suc i) (take n xs) =
+      ap (drop 1) (between-is xs i n) ∙ drop-drop 1 i (take n xs) ∙ ap (λ k. drop k (take n xs)) (add-one i) in
+      let one : 1 ≤ n - i = omega arith in
+      let first : take 1 (take (n - i) (drop i xs)) ≡ take 1 (drop i xs) = take-take 1 (n - i) (drop i xs) one in
+      let end : i + (n - i) ≡ n = omega arith in
+      let upto : i ≤ n = omega arith in
+      let moved = e ∙ ap (λ l. l ++ take 1 (take (n - i) (drop i xs))) behind ∙ ap (λ l. drop (suc i) (take n xs) ++ l) first in
+      let b = drop (suc i) (take n xs) in
+      let t = take 1 (drop i xs) in
+      ap (λ l. take i xs ++ (l ++ postOf i (n - i) xs)) moved
+      ∙ ap (λ l. take i xs ++ ((b ++ t) ++ l)) (drop-drop (n - i) i xs ∙ ap (λ k. drop k xs) end)
+      ∙ ap (λ l. l ++ ((b ++ t) ++ drop n xs)) (sym (take-take i n xs upto))
+      ∙ ap (λ l. take i (take n xs) ++ l) (append-assoc b t (drop n xs))
+      ∙ sym (append-assoc (take i (take n xs)) b (t ++ drop n xs))

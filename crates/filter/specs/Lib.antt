@@ -1,2 +1,4 @@
+pub mod EditErrors
+pub mod Ledger
 pub mod States
 pub mod Views

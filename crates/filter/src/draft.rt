@@ -1,10 +1,12 @@
 // A draft: a filter that is edited. Sealing it moves it.
 ghost use mathlib.Core.Path.{_≡_};
 ghost use denote.Ref.{name};
-ghost use lib.ListN.{length};
+ghost use lib.ListN.{length, set};
 ghost use Rattle.records.specs.Files.{fileOf};
 ghost use Rattle.filter.specs.Views.{emptyView, withDefault, loadedView, loadedPlaces, loadAnswer};
+ghost use Rattle.filter.specs.Ledger.{ifDone, insertAnswer, afterInsert, placeAnswer, afterRemove, afterReplace, defaultAnswer, afterDefault, insertedPlaces, removedPlaces};
 ghost use Rattle.filter.specs.States.{draftView, sealedView};
+use crate::errors::EditError;
 use crate::sealed::Sealed;
 use crate::table::Table;
 use family::ActionKind;
@@ -28,6 +30,46 @@ impl<'a, R: Family, A: ActionKind> Draft<'a, R, A> {
         Draft {
             table: Table::new(places),
         }
+    }
+
+    // Puts a clause before the one at a place, or at the end.
+    pub fn insert(&mut self, place: usize, clause: Clause<R, A>) -> Result<(), EditError>
+        ensures answer { λ r. ⌜ r ≡ insertAnswer (draftView reject (now (self .entry))) place ⌝ }
+        ensures view { λ _. ⌜ draftView reject (now (self .exit)) ≡ afterInsert (draftView reject (now (self .entry))) place clause ⌝ }
+        ensures memory { λ r. ⌜ now (now (self .exit) .table .places) ≡ ifDone r (insertedPlaces (now (now (self .entry) .table .places)) (length (draftView reject (now (self .entry)) .clauses)) place clause) (now (now (self .entry) .table .places)) ⌝ }
+        ensures lender { λ _. ⌜ name (now (self .exit) .table .places) ≡ name (now (self .entry) .table .places) ⌝ }
+    {
+        self.table.insert(place, clause)
+    }
+
+    // Takes the clause at a place out.
+    pub fn remove(&mut self, place: usize) -> Result<(), EditError>
+        ensures answer { λ r. ⌜ r ≡ placeAnswer (draftView reject (now (self .entry))) place ⌝ }
+        ensures view { λ _. ⌜ draftView reject (now (self .exit)) ≡ afterRemove (draftView reject (now (self .entry))) place ⌝ }
+        ensures memory { λ r. ⌜ now (now (self .exit) .table .places) ≡ ifDone r (removedPlaces (now (now (self .entry) .table .places)) (length (draftView reject (now (self .entry)) .clauses)) place) (now (now (self .entry) .table .places)) ⌝ }
+        ensures lender { λ _. ⌜ name (now (self .exit) .table .places) ≡ name (now (self .entry) .table .places) ⌝ }
+    {
+        self.table.remove(place)
+    }
+
+    // Changes the clause at a place.
+    pub fn replace(&mut self, place: usize, clause: Clause<R, A>) -> Result<(), EditError>
+        ensures answer { λ r. ⌜ r ≡ placeAnswer (draftView reject (now (self .entry))) place ⌝ }
+        ensures view { λ _. ⌜ draftView reject (now (self .exit)) ≡ afterReplace (draftView reject (now (self .entry))) place clause ⌝ }
+        ensures memory { λ r. ⌜ now (now (self .exit) .table .places) ≡ ifDone r (set (now (now (self .entry) .table .places)) place clause) (now (now (self .entry) .table .places)) ⌝ }
+        ensures lender { λ _. ⌜ name (now (self .exit) .table .places) ≡ name (now (self .entry) .table .places) ⌝ }
+    {
+        self.table.replace(place, clause)
+    }
+
+    // Changes the default.
+    pub fn set_default(&mut self, action: A) -> Result<(), EditError>
+        ensures answer { λ r. ⌜ r ≡ defaultAnswer (draftView reject (now (self .entry))) ⌝ }
+        ensures view { λ _. ⌜ draftView reject (now (self .exit)) ≡ afterDefault (draftView reject (now (self .entry))) action ⌝ }
+        ensures memory { λ r. ⌜ now (now (self .exit) .table .places) ≡ ifDone r (withDefault whole (now (now (self .entry) .table .places)) action) (now (now (self .entry) .table .places)) ⌝ }
+        ensures lender { λ _. ⌜ name (now (self .exit) .table .places) ≡ name (now (self .entry) .table .places) ⌝ }
+    {
+        self.table.set_default(action)
     }
 
     // The same filter, sealed.
