@@ -35,7 +35,7 @@ fn usable_places(room: usize) -> usize
 }
 
 // A place that holds a default: its region is not read.
-fn default_place<R: Family, A: ActionKind>(action: A) -> Clause<R, A>
+pub(crate) fn default_place<R: Family, A: ActionKind>(action: A) -> Clause<R, A>
     ensures { λ r. ⌜ r ≡ record { region = whole; action = action } ⌝ }
 {
     Clause {
