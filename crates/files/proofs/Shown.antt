@@ -3,10 +3,10 @@ use mathlib.Core.Path.{_≡_, refl, sym, ap, subst, _∙_}
 use mathlib.Core.List.{List, _++_}
 use Prim.Native.Nat.{ℕ, _≤_}
 use native.Mathlib.Omega.{arith}
-use lib.ListN.{length, take, drop, length-take}
+use lib.ListN.{length, take, drop}
 use Rattle.std.specs.declared.result.Result.{Result}
 use Rattle.std.specs.declared.result.Result.the-variants.{Ok, Err}
-use Rattle.std.proofs.shelf.Lists.{take-append-le, take-take}
+use Rattle.std.proofs.shelf.Lists.{take-all}
 use Rattle.family.specs.declared.clauses.Clause.{Clause}
 use Rattle.supplied.specs.declared.actions.RouteAction.{RouteAction}
 use Rattle.supplied.specs.declared.ranges.PrefixRange.{PrefixRange}
@@ -18,19 +18,17 @@ use Rattle.compare.specs.declared.reports.Declined.{Declined}
 use Rattle.compare.specs.declared.reports.Report.{Report}
 use Rattle.compare.specs.declared.rows.Row.{Row}
 use Rattle.compare.specs.Compared.{usedPlaces, frontOf, unlessDeclined, listFor, rowsIn, holesIn, outcome, regionsAfter}
+use Rattle.compare.proofs.AnsweredRightly.{front-back, used-back}
 use Rattle.compare.proofs.Outcomes.{Told, report-told}
 use Rattle.listing.specs.Listings.{listing}
 use Rattle.files.specs.Printed.{Filter, filterOf, regionsListed, rowsListed, holesListed, answered, reportText, comparedText}
 
--- a list at the front, read back
+-- as much of a list at the front as is read back
 read-front : {X : Type 0} (xs old : List X) (n : ℕ) → n ≡ length xs → take n (xs ++ drop (length xs) old) ≡ take n xs
-read-front xs old n e = take-append-le n xs (drop (length xs) old) (omega arith)
+read-front xs old n e = front-back xs old n e ∙ sym (take-all n xs (omega arith))
 
 read-used : {X : Type 0} (places : ℕ) (xs old : List X) (n : ℕ) → n ≡ length xs → length xs ≤ places → take n (frontOf places xs old) ≡ take n xs
-read-used places xs old n e fits =
-    let reach : n ≤ length (take places xs) = omega (arith, length-take places xs) in
-    let low : n ≤ places = omega arith in
-    take-append-le n (take places xs) (drop (length (take places xs)) old) reach ∙ take-take n places xs low
+read-used places xs old n e fits = used-back places xs old n e fits ∙ sym (take-all n xs (omega arith))
 
 module _ (left right : Filter) (old : List PrefixRange) (old-rows : List Row) (old-holes : List ℕ) (lefts rights : ℕ) where
   pub shown : (o : Result Report Declined) → o ≡ answered left right → reportText o (frontOf 1024 (regionsListed left right) old) (unlessDeclined o (rowsListed left right) old-rows) (unlessDeclined o (holesListed left right) old-holes) lefts rights ≡ reportText (answered left right) (regionsListed left right) (rowsListed left right) (holesListed left right) lefts rights
