@@ -1,5 +1,7 @@
 // Bytes put into a lent buffer. A place may lie behind the buffer's end, so that a text
 // put into an empty buffer is measured.
+#![tactic(auto)]
+
 ghost use Rattle.std.specs.Prelude.{[], ◌∷◌};
 ghost use Rattle.buffers.specs.Buffers.{Placed};
 

@@ -1,4 +1,6 @@
 // Two sealed filters compared: the region list, the rows that they treat unlike, and the rows' holes.
+#![tactic(auto)]
+
 mod cells;
 mod comparison;
 mod regions;

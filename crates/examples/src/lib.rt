@@ -1,4 +1,6 @@
 // Worked examples, shown of the definitions that the contracts cite.
+#![tactic(auto)]
+
 ghost use Rattle.examples.specs.Worked.{Worked};
 
 // The examples stand: the checker computes each from the definitions.

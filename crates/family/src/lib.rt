@@ -1,4 +1,6 @@
 // What a family of regions and a kind of action tell, and the laws that they owe.
+#![tactic(auto)]
+
 mod actions;
 mod clauses;
 mod edges;

@@ -1,4 +1,6 @@
 // The fields of a record and how a record is laid out, and the faults of records and files.
+#![tactic(auto)]
+
 mod faults;
 mod fields;
 mod layouts;

@@ -1,4 +1,6 @@
 // Filter files from their bytes: one checked, or two compared, to the listing or to why there is none.
+#![tactic(auto)]
+
 mod checks;
 mod comparing;
 mod refusals;

@@ -1,4 +1,6 @@
 // First-match filters in lent clause memory: drafts that are edited, sealed filters that are matched and compared.
+#![tactic(auto)]
+
 mod draft;
 mod errors;
 mod places;

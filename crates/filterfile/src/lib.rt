@@ -1,4 +1,6 @@
 // A whole filter file, for every recorded family and action kind.
+#![tactic(auto)]
+
 mod files;
 mod writing;
 

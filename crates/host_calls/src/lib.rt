@@ -1,4 +1,6 @@
 // The calls for a host program in another language. A slice crosses as a pointer and then a length, an answer as one number.
+#![tactic(auto)]
+
 ghost use Rattle.std.specs.Prelude.{◌≡◌};
 ghost use Rattle.files.specs.Checked.{checked};
 ghost use Rattle.files.specs.Compared.{files_compared};

@@ -1,4 +1,6 @@
 // The printed text of a comparison: its rows, or which load or comparison was declined.
+#![tactic(auto)]
+
 mod declines;
 mod lines;
 mod listings;

@@ -1,4 +1,6 @@
 // Comparisons of drawn filters, checked point by point.
+#![tactic(auto)]
+
 #[cfg(test)]
 mod draws;
 #[cfg(test)]

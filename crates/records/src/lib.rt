@@ -1,4 +1,6 @@
 // Families whose regions, and action kinds whose actions, have records: the traits, and the records of those supplied.
+#![tactic(auto)]
+
 mod actions;
 mod pairs;
 mod ranges;

@@ -1,4 +1,6 @@
 // rowlist: compares left.flt and right.flt and prints the routes that the two filters treat unlike.
+#![tactic(auto)]
+
 use files::printed;
 use std::io::Write;
 use std::{fs, io};

@@ -1,4 +1,6 @@
 // The families of regions and the action kinds that the product supplies.
+#![tactic(auto)]
+
 mod actions;
 mod errors;
 mod pairs;

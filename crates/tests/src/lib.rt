@@ -1,4 +1,6 @@
 // Tables of examples over the calls that the programs make.
+#![tactic(auto)]
+
 #[cfg(test)]
 mod comparing;
 #[cfg(test)]
