@@ -6,7 +6,7 @@ use Rattle.buffers.proofs.put_byte.Goals.{then-at-out, else-at-out}
 
 pub returns : goal.returns
 returns c =
-    placed_byte (omega arith) c.saturating-add.ensures
+    placed_byte (omega arith) c.saturating_add.ensures
     (elim c.if-at-out.branch [
       | then-at-out w ↦ w.out-is
       | else-at-out w ↦ w.out-is ∙ sym (set_past c.args.out.now c.args.at c.args.byte (omega arith))

@@ -6,7 +6,7 @@ use Rattle.buffers.proofs.put_text.Goals as goal
 pub loop-byte-preserved : goal.loop-byte-preserved
 loop-byte-preserved c =
     placed_same (sym (take_more c.args.text.now c.loop-byte.byte-index 0 (omega arith)))
-    (c.loop-byte.invariant then c.put-byte-end.ensures)
+    (c.loop-byte.invariant then c.put_byte-end.ensures)
 
 pub returns : goal.returns
 returns c = placed_same (take_all c.loop-byte.byte-index c.args.text.now (omega arith)) c.loop-byte.invariant

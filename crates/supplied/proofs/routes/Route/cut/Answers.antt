@@ -3,7 +3,11 @@ use Rattle.std.proofs.Common.{ℕ, ◌-◌, ◌%◌, ◌^◌, ap, ◌∙◌, ari
 use Rattle.supplied.specs.Multiples.{cut_multiple}
 use Rattle.supplied.proofs.routes.Route.cut.Goals as goal
 
-pub invariant-of-result : goal.invariant-of-result
-invariant-of-result c =
+pub invariant_of-result : goal.invariant_of-result
+invariant_of-result c =
     let s : ℕ = 2 ^ (32 - c.args.length) in
-    (c.requires, (omega arith, (ap (λ (rest : ℕ). (c.args.address - rest) % s) c.bits-after.ensures ∙ cut_multiple s c.args.address, tt)))
+    record {
+      width = c.requires;
+      bound = omega arith;
+      zeros = ap (λ (rest : ℕ). (c.args.address - rest) % s) c.bits_after.ensures ∙ cut_multiple s c.args.address;
+    }

@@ -6,8 +6,8 @@ use Rattle.supplied.proofs.routes.Route.new.Goals as goal
 pub returns-then-length-gt32 : goal.returns-then-length-gt32
 returns-then-length-gt32 c = sym (route_refused _ _ _ (grind arith))
 
-pub returns-then-bits-after-ne0 : goal.returns-then-bits-after-ne0
-returns-then-bits-after-ne0 c = sym (route_refused _ _ _ (grind arith))
+pub returns-then-bits_after-ne0 : goal.returns-then-bits_after-ne0
+returns-then-bits_after-ne0 c = sym (route_refused _ _ _ (grind arith))
 
 pub returns : goal.returns
 returns c = sym (route_made _)

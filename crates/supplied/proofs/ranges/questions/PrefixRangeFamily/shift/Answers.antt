@@ -15,8 +15,8 @@ returns-in-2 c =
     let shifted : ℕ → _ = λ axis. route_shifted c.args.point axis c.args.edge c.args.self in
     subst (λ (axis : ℕ). c.cut-in-2.result ≡ shifted axis) (sym c.in-2.is) (same_route c.cut-in-2.result (shifted 2) (cc) (cc))
 
-pub returns-in-default : goal.returns-in-default
-returns-in-default c =
+pub returns-in_default : goal.returns-in_default
+returns-in_default c =
     sym
     (ap route_values.back
     (elsewhere 32 (route_values.to c.args.point) c.args.axis c.args.edge (range_values.to c.args.self) (λ x. omega arith) (λ x. omega arith)))
