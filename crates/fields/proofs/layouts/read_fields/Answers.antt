@@ -11,23 +11,23 @@ pub loop-init : goal.loop-init
 loop-init g c =
     (ap (λ n. fields_of g.L.Layout.layout.taken (places_of c.args.map) n c.args.bytes.now) c.absent-numbers.ensures, zero-add _, omega arith)
 
-pub returns-in-err-more : goal.returns-in-err-more
-returns-in-err-more g c =
-    let p = err_from_is_err_and c.from-residual.result c.from-residual.ensures.1 in
+pub returns-in_err-more : goal.returns-in_err-more
+returns-in_err-more g c =
+    let p = err_from_is_err_and c.from_residual.result c.from_residual.ensures.1 in
     record {
       fields =
           rw (p.1, p.2)
-          (sym (field_refused g.L.Layout.layout.taken c.loop.ahead c.loop.invariant.2 c.loop.numbers c.loop.rest.now (omega arith) _ (seen-refused {r = c.take-field.result} c.take-field.ensures c.in-err-more.was))
+          (sym (field_refused g.L.Layout.layout.taken c.loop.ahead c.loop.invariant.2 c.loop.numbers c.loop.rest.now (omega arith) _ (seen-refused {r = c.take_field.result} c.take_field.ensures c.in_err-more.was))
           ∙ c.loop.invariant.0);
       count = places_count c.args.map (omega arith);
     }
 
-pub overflow-sub-ahead : goal.overflow-sub-ahead
-overflow-sub-ahead g c = some_one c.loop.ahead (omega arith)
+pub overflow_sub-ahead : goal.overflow_sub-ahead
+overflow_sub-ahead g c = some_one c.loop.ahead (omega arith)
 
 pub loop-preserved : goal.loop-preserved
 loop-preserved g c =
-    let read = seen_read {r = c.take-field.result} c.take-field.ensures c.in-ok-more.was in
+    let read = seen_read {r = c.take_field.result} c.take_field.ensures c.in_ok-more.was in
     (sym (field_read g.L.Layout.layout.taken c.loop.ahead c.loop.invariant.2 c.loop.numbers c.loop.rest.now (omega arith) _ _ read) ∙ c.loop.invariant.0, omega (arith, ones_next c.loop.ahead c.loop.invariant.2 (some_one c.loop.ahead (omega arith))), omega (arith, and_le_l c.loop.ahead (c.loop.ahead - 1), c.loop.invariant.2))
 
 pub returns : goal.returns
