@@ -8,11 +8,11 @@ pub returns-in-Accept : goal.returns-in-Accept
 returns-in-Accept c =
     let preference = c.in-Accept.preference in
     let med = c.in-Accept.med in
-    let map = ap (λ b. 1 + 2 * b + 4 * c.number-bit-in-Accept.result) c.number-bit.ensures ∙ ap (λ b. 1 + 2 * number_bit preference + 4 * b) c.number-bit-in-Accept.ensures in
+    let map = ap (λ b. 1 + 2 * b + 4 * c.number_bit-in-Accept.result) c.number_bit.ensures ∙ ap (λ b. 1 + 2 * number_bit preference + 4 * b) c.number_bit-in-Accept.ensures in
     record {
       bytes =
           placed_same (ap (λ m. (m ∷ []) ++ number_bytes preference ++ number_bytes med) map ∙ ap action_bytes (sym c.in-Accept.is))
-          (c.put-byte-at.ensures then c.put-number-at.ensures.bytes then c.put-number.ensures.bytes);
+          (c.put_byte-at.ensures then c.put_number-at.ensures.bytes then c.put_number.ensures.bytes);
       numbers =
-          subst ActionFits (sym c.in-Accept.is) (c.put-number-at.ensures.numbers, c.put-number.ensures.numbers);
+          subst ActionFits (sym c.in-Accept.is) (c.put_number-at.ensures.numbers, c.put_number.ensures.numbers);
     }

@@ -6,10 +6,10 @@ use Rattle.records.proofs.spans.SpanRecorded.read.Goals as goal
 
 pub returns : goal.returns
 returns g c =
-    let told = c.read-record.ensures in
+    let told = c.read_record.ensures in
     record {
       outcome = told.outcome;
       rest = told.rest;
       meaning = λ point. ap (λ r. held_in (span_holds g.row.TOP) r point) told.outcome;
-      count = span_took g.row.TOP c.args.bytes.now c.read-record.result.0 c.read-record.result.1.now told.outcome told.rest;
+      count = span_took g.row.TOP c.args.bytes.now c.read_record.result.0 c.read_record.result.1.now told.outcome told.rest;
     }

@@ -3,9 +3,9 @@ use Rattle.records.proofs.verdicts.VerdictRecordedAction.read.Goals as goal
 
 pub returns : goal.returns
 returns c =
-    let told = c.read-record.ensures in
+    let told = c.read_record.ensures in
     record {
       outcome = told.outcome;
       rest = told.rest;
-      count = verdict_took c.args.bytes.now c.read-record.result.0 c.read-record.result.1.now told.outcome told.rest;
+      count = verdict_took c.args.bytes.now c.read_record.result.0 c.read_record.result.1.now told.outcome told.rest;
     }
