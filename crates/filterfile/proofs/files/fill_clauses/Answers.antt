@@ -6,14 +6,14 @@ use Rattle.filterfile.proofs.files.fill_clauses.Goals as goal
 pub loop-number-init : goal.loop-number-init
 loop-number-init g c = λ total clauses behind all. begun g.R.Recorded.reads g.A.RecordedAction.reads all
 
-pub returns-in-default : goal.returns-in-default
-returns-in-default g c =
-    let read = seen-refused {r = c.read-clause.result} c.read-clause.ensures c.in-default.is in
+pub returns-in_default : goal.returns-in_default
+returns-in_default g c =
+    let read = seen-refused {r = c.read_clause.result} c.read_clause.ensures c.in_default.is in
     λ total clauses behind all. absurd (never-refused g.R.Recorded.reads g.A.RecordedAction.reads (c.loop-number.invariant total clauses behind all) (omega arith) _ read)
 
 pub loop-number-preserved : goal.loop-number-preserved
 loop-number-preserved g c =
-    let read = seen_read {r = c.read-clause.result} c.read-clause.ensures c.in-Ok.is in
+    let read = seen_read {r = c.read_clause.result} c.read_clause.ensures c.in-Ok.is in
     λ total clauses behind all. one_more g.R.Recorded.reads g.A.RecordedAction.reads (c.loop-number.invariant total clauses behind all) (omega arith) (omega arith) _ _ read
 
 pub returns : goal.returns
