@@ -20,8 +20,8 @@ pub struct Draft<'a, R, A> {
 impl<'a, R: Family, A: ActionKind> Draft<'a, R, A> {
     // An empty draft with default reject, in memory that is lent.
     pub fn new(places: &'a mut [Clause<R, A>]) -> Draft<'a, R, A>
-        ensures view { draft_view reject result ≡ empty_view reject (length places.old) }
-        ensures memory { result.table.places.now ≡ with_default whole places.old reject }
+        ensures view { draft_view A.reject result ≡ empty_view A.reject (length places.old) }
+        ensures memory { result.table.places.now ≡ with_default R.whole places.old A.reject }
         ensures lender { result.table.places.ghost_name ≡ places.entry.ghost_name }
     {
         Draft {
@@ -31,9 +31,9 @@ impl<'a, R: Family, A: ActionKind> Draft<'a, R, A> {
 
     // Puts a clause before the one at a place, or at the end.
     pub fn insert(&mut self, place: usize, clause: Clause<R, A>) -> Result<(), EditError>
-        ensures answer { result ≡ insert_answer (draft_view reject self.old) place }
-        ensures view { draft_view reject self.new ≡ after_insert (draft_view reject self.old) place clause }
-        ensures memory { self.new.table.places.now ≡ if_done result (inserted_places self.old.table.places.now (length (draft_view reject self.old).clauses) place clause) self.old.table.places.now }
+        ensures answer { result ≡ insert_answer (draft_view A.reject self.old) place }
+        ensures view { draft_view A.reject self.new ≡ after_insert (draft_view A.reject self.old) place clause }
+        ensures memory { self.new.table.places.now ≡ if_done result (inserted_places self.old.table.places.now (length (draft_view A.reject self.old).clauses) place clause) self.old.table.places.now }
         ensures lender { self.new.table.places.ghost_name ≡ self.old.table.places.ghost_name }
     {
         self.table.insert(place, clause)
@@ -41,9 +41,9 @@ impl<'a, R: Family, A: ActionKind> Draft<'a, R, A> {
 
     // Takes the clause at a place out.
     pub fn remove(&mut self, place: usize) -> Result<(), EditError>
-        ensures answer { result ≡ place_answer (draft_view reject self.old) place }
-        ensures view { draft_view reject self.new ≡ after_remove (draft_view reject self.old) place }
-        ensures memory { self.new.table.places.now ≡ if_done result (removed_places self.old.table.places.now (length (draft_view reject self.old).clauses) place) self.old.table.places.now }
+        ensures answer { result ≡ place_answer (draft_view A.reject self.old) place }
+        ensures view { draft_view A.reject self.new ≡ after_remove (draft_view A.reject self.old) place }
+        ensures memory { self.new.table.places.now ≡ if_done result (removed_places self.old.table.places.now (length (draft_view A.reject self.old).clauses) place) self.old.table.places.now }
         ensures lender { self.new.table.places.ghost_name ≡ self.old.table.places.ghost_name }
     {
         self.table.remove(place)
@@ -51,8 +51,8 @@ impl<'a, R: Family, A: ActionKind> Draft<'a, R, A> {
 
     // Changes the clause at a place.
     pub fn replace(&mut self, place: usize, clause: Clause<R, A>) -> Result<(), EditError>
-        ensures answer { result ≡ place_answer (draft_view reject self.old) place }
-        ensures view { draft_view reject self.new ≡ after_replace (draft_view reject self.old) place clause }
+        ensures answer { result ≡ place_answer (draft_view A.reject self.old) place }
+        ensures view { draft_view A.reject self.new ≡ after_replace (draft_view A.reject self.old) place clause }
         ensures memory { self.new.table.places.now ≡ if_done result (slice_set self.old.table.places.now place clause) self.old.table.places.now }
         ensures lender { self.new.table.places.ghost_name ≡ self.old.table.places.ghost_name }
     {
@@ -61,9 +61,9 @@ impl<'a, R: Family, A: ActionKind> Draft<'a, R, A> {
 
     // Changes the default.
     pub fn set_default(&mut self, action: A) -> Result<(), EditError>
-        ensures answer { result ≡ default_answer (draft_view reject self.old) }
-        ensures view { draft_view reject self.new ≡ after_default (draft_view reject self.old) action }
-        ensures memory { self.new.table.places.now ≡ if_done result (with_default whole self.old.table.places.now action) self.old.table.places.now }
+        ensures answer { result ≡ default_answer (draft_view A.reject self.old) }
+        ensures view { draft_view A.reject self.new ≡ after_default (draft_view A.reject self.old) action }
+        ensures memory { self.new.table.places.now ≡ if_done result (with_default R.whole self.old.table.places.now action) self.old.table.places.now }
         ensures lender { self.new.table.places.ghost_name ≡ self.old.table.places.ghost_name }
     {
         self.table.set_default(action)
@@ -71,7 +71,7 @@ impl<'a, R: Family, A: ActionKind> Draft<'a, R, A> {
 
     // The same filter, sealed.
     pub fn seal(self) -> Sealed<'a, R, A>
-        ensures view { sealed_view reject result ≡ draft_view reject self.entry }
+        ensures view { sealed_view A.reject result ≡ draft_view A.reject self.entry }
         ensures memory { result.table.places.now ≡ self.entry.table.places.now }
         ensures lender { result.table.places.ghost_name ≡ self.entry.table.places.ghost_name }
     {

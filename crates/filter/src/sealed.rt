@@ -32,21 +32,21 @@ impl<'a, R: Family, A: ActionKind> Sealed<'a, R, A> {
 
     // The clauses in their order.
     pub fn clauses(&self) -> &[Clause<R, A>]
-        ensures { result.now ≡ (sealed_view reject self.now).clauses }
+        ensures { result.now ≡ (sealed_view A.reject self.now).clauses }
     {
         self.table.clauses()
     }
 
     pub fn default(&self) -> A
-        ensures { result ≡ (sealed_view reject self.now).default }
+        ensures { result ≡ (sealed_view A.reject self.now).default }
     {
         self.table.default()
     }
 
     // The place that decides a point, and its action: the first clause whose region holds the point, or the default.
     pub fn first_match(&self, point: R::Point) -> (usize, A)
-        ensures answer { result ≡ match_of holds (sealed_view reject self.now) point }
-        ensures first { FirstHolding holds (sealed_view reject self.now).clauses point result.0 }
+        ensures answer { result ≡ match_of R.holds (sealed_view A.reject self.now) point }
+        ensures first { FirstHolding R.holds (sealed_view A.reject self.now).clauses point result.0 }
     {
         decide(self.table.clauses(), self.table.default(), point)
     }
@@ -70,8 +70,8 @@ fn decide<R: Family, A: ActionKind>(
     default: A,
     point: R::Point,
 ) -> (usize, A)
-    ensures place { result.0 ≡ first_where (holding holds point) clauses.now }
-    ensures action { result.1 ≡ action_at clauses.now default (first_where (holding holds point) clauses.now) }
+    ensures place { result.0 ≡ first_where (holding R.holds point) clauses.now }
+    ensures action { result.1 ≡ action_at clauses.now default (first_where (holding R.holds point) clauses.now) }
 {
     for (place, clause) in clauses.iter().enumerate() {
         if clause.region.holds_point(point) {

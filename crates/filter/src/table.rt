@@ -20,7 +20,7 @@ pub struct Table<'a, R, A> {
 
 // A place that holds a default: its region is not read.
 pub(crate) fn default_place<R: Family, A: ActionKind>(action: A) -> Clause<R, A>
-    ensures { result ≡ record { region = whole; action = action } }
+    ensures { result ≡ record { region = R.whole; action = action } }
 {
     Clause {
         region: R::whole_region(),
@@ -32,7 +32,7 @@ impl<'a, R: Family, A: ActionKind> Table<'a, R, A> {
     // An empty table with default reject.
     pub fn new(places: &'a mut [Clause<R, A>]) -> Table<'a, R, A>
         ensures view { view_of A.ActionKind.reject result.places.now result.count ≡ empty_view A.ActionKind.reject (length places.old) }
-        ensures memory { result.places.now ≡ with_default whole places.old A.ActionKind.reject }
+        ensures memory { result.places.now ≡ with_default R.whole places.old A.ActionKind.reject }
         ensures lender { result.places.ghost_name ≡ places.entry.ghost_name }
     {
         put_last(places, default_place(A::rejecting()));
@@ -54,15 +54,15 @@ impl<'a, R: Family, A: ActionKind> Table<'a, R, A> {
     }
 
     pub fn default(&self) -> A
-        ensures { result ≡ default_in reject self.now.places.now }
+        ensures { result ≡ default_in A.reject self.now.places.now }
     {
         last_or(self.places, default_place(A::rejecting())).action
     }
 
     // Puts a clause before the one at a place, or at the end.
     pub fn insert(&mut self, place: usize, clause: Clause<R, A>) -> Result<(), EditError>
-        ensures answer { result ≡ insert_answer (view_of reject self.old.places.now self.old.count) place }
-        ensures view { view_of reject self.new.places.now self.new.count ≡ after_insert (view_of reject self.old.places.now self.old.count) place clause }
+        ensures answer { result ≡ insert_answer (view_of A.reject self.old.places.now self.old.count) place }
+        ensures view { view_of A.reject self.new.places.now self.new.count ≡ after_insert (view_of A.reject self.old.places.now self.old.count) place clause }
         ensures memory { self.new.places.now ≡ if_done result (inserted_places self.old.places.now (length (clauses_in self.old.places.now self.old.count)) place clause) self.old.places.now }
         ensures lender { self.new.places.ghost_name ≡ self.old.places.ghost_name }
     {
@@ -81,8 +81,8 @@ impl<'a, R: Family, A: ActionKind> Table<'a, R, A> {
 
     // Takes the clause at a place out.
     pub fn remove(&mut self, place: usize) -> Result<(), EditError>
-        ensures answer { result ≡ place_answer (view_of reject self.old.places.now self.old.count) place }
-        ensures view { view_of reject self.new.places.now self.new.count ≡ after_remove (view_of reject self.old.places.now self.old.count) place }
+        ensures answer { result ≡ place_answer (view_of A.reject self.old.places.now self.old.count) place }
+        ensures view { view_of A.reject self.new.places.now self.new.count ≡ after_remove (view_of A.reject self.old.places.now self.old.count) place }
         ensures memory { self.new.places.now ≡ if_done result (removed_places self.old.places.now (length (clauses_in self.old.places.now self.old.count)) place) self.old.places.now }
         ensures lender { self.new.places.ghost_name ≡ self.old.places.ghost_name }
     {
@@ -97,8 +97,8 @@ impl<'a, R: Family, A: ActionKind> Table<'a, R, A> {
 
     // Changes the clause at a place.
     pub fn replace(&mut self, place: usize, clause: Clause<R, A>) -> Result<(), EditError>
-        ensures answer { result ≡ place_answer (view_of reject self.old.places.now self.old.count) place }
-        ensures view { view_of reject self.new.places.now self.new.count ≡ after_replace (view_of reject self.old.places.now self.old.count) place clause }
+        ensures answer { result ≡ place_answer (view_of A.reject self.old.places.now self.old.count) place }
+        ensures view { view_of A.reject self.new.places.now self.new.count ≡ after_replace (view_of A.reject self.old.places.now self.old.count) place clause }
         ensures memory { self.new.places.now ≡ if_done result (slice_set self.old.places.now place clause) self.old.places.now }
         ensures lender { self.new.places.ghost_name ≡ self.old.places.ghost_name }
     {
@@ -112,9 +112,9 @@ impl<'a, R: Family, A: ActionKind> Table<'a, R, A> {
 
     // Changes the default.
     pub fn set_default(&mut self, action: A) -> Result<(), EditError>
-        ensures answer { result ≡ default_answer (view_of reject self.old.places.now self.old.count) }
-        ensures view { view_of reject self.new.places.now self.new.count ≡ after_default (view_of reject self.old.places.now self.old.count) action }
-        ensures memory { self.new.places.now ≡ if_done result (with_default whole self.old.places.now action) self.old.places.now }
+        ensures answer { result ≡ default_answer (view_of A.reject self.old.places.now self.old.count) }
+        ensures view { view_of A.reject self.new.places.now self.new.count ≡ after_default (view_of A.reject self.old.places.now self.old.count) action }
+        ensures memory { self.new.places.now ≡ if_done result (with_default R.whole self.old.places.now action) self.old.places.now }
         ensures lender { self.new.places.ghost_name ≡ self.old.places.ghost_name }
     {
         let room = self.places.len();

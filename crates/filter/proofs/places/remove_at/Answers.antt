@@ -5,5 +5,5 @@ use Rattle.filter.proofs.places.remove_at.Goals as goal
 pub returns : goal.returns
 returns g c = record {
   answer = search rules;
-  memory = remove_turns c.args.places.now c.args.count c.args.place (omega arith) (omega arith) c.rotate-left.new.self c.rotate-left.ensures.after;
+  memory = remove_turns c.args.places.now c.args.count c.args.place (omega arith) (omega arith) c.rotate_left.new.self c.rotate_left.ensures.after;
 }

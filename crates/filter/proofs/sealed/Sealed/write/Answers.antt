@@ -4,7 +4,7 @@ use Rattle.filter.proofs.sealed.Sealed.write.Goals as goal
 pub returns : goal.returns
 returns g c =
     let table = c.args.self.now.table in
-    let told = c.write-file.ensures in
+    let told = c.write_file.ensures in
     let regions = g.R.Recorded.writes in
     let actions = g.A.RecordedAction.writes in
     let reads = g.R.Recorded.reads in

@@ -7,7 +7,7 @@ pub returns : goal.returns
 returns g c =
     let places = c.args.places.now in
     let whole = g.R.Family.whole in
-    let put = c.put-last.ensures ∙ ap (set places (length places - 1)) (c.default-place.ensures ∙ ap (λ a. record { region = whole; action = a }) c.rejecting.ensures) in
+    let put = c.put_last.ensures ∙ ap (set places (length places - 1)) (c.default_place.ensures ∙ ap (λ a. record { region = whole; action = a }) c.rejecting.ensures) in
     record {
       view = ap (λ l. view_of g.A.ActionKind.reject l 0) put ∙ fresh whole places g.A.ActionKind.reject;
       memory = put;

@@ -18,7 +18,7 @@ returns g c =
     let low : c.args.place < m = omega (arith, c.if-place-count.false) in
     let fits : m ≤ length places = omega (arith, is) in
     let done = place_held v c.args.place (omega (arith, all, is)) in
-    let put = c.remove-at.ensures.memory ∙ cond-true _ _ _ (c.remove-at.ensures.answer ∙ and_from _ _ (lt-ltb _ _ low) (le-leb _ _ fits)) in
+    let put = c.remove_at.ensures.memory ∙ cond-true _ _ _ (c.remove_at.ensures.answer ∙ and_from _ _ (lt-ltb _ _ low) (le-leb _ _ fits)) in
     record {
       answer = done;
       view = ap (λ l. view_of reject l (m - 1)) put ∙ after_remove_lem reject places held m c.args.place is low ∙ ap (λ o. if_done o (with_clauses v (remove (clauses_in places held) c.args.place)) v) done;

@@ -15,7 +15,7 @@ returns g c =
     let all = counted reject places held in
     let low : c.args.place < m = omega (arith, c.if-place-count.false) in
     let done = place_held v c.args.place (omega (arith, all, is)) in
-    let put = c.replace-at.ensures.memory in
+    let put = c.replace_at.ensures.memory in
     record {
       answer = done;
       view = ap (λ l. view_of reject l held) put ∙ after_replace_lem reject places held m c.args.place c.args.clause is low ∙ ap (λ o. if_done o (with_clauses v (set (clauses_in places held) c.args.place c.args.clause)) v) done;

@@ -14,7 +14,7 @@ returns g c =
     let v = view_of reject places held in
     let some : 0 < length places = omega (arith, c.if-room-eq0.false) in
     let done = default_placed v some in
-    let put = c.put-last.ensures ∙ ap (set places (length places - 1)) c.default-place.ensures in
+    let put = c.put_last.ensures ∙ ap (set places (length places - 1)) c.default_place.ensures in
     record {
       answer = done;
       view = ap (λ l. view_of reject l held) put ∙ redefaulted reject places whole held c.args.action some ∙ ap (λ o. if_done o (record { clauses = v.clauses; default = c.args.action; room = v.room }) v) done;
