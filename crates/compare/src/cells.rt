@@ -6,7 +6,7 @@ ghost use Rattle.compare.specs.Cells.{region_at, strictly, above, nested, outerm
 use family::{Edge, Family};
 
 pub(crate) fn region_at<R: Family>(listed: &[R], number: usize) -> R
-    ensures { result ≡ region_at whole listed.now number }
+    ensures { result ≡ region_at R.whole listed.now number }
 {
     if number < listed.len() {
         listed[number]
@@ -16,7 +16,7 @@ pub(crate) fn region_at<R: Family>(listed: &[R], number: usize) -> R
 }
 
 fn strictly_inside<R: Family>(a: R, b: R) -> bool
-    ensures { result ≡ strictly inside a b }
+    ensures { result ≡ strictly R.inside a b }
 {
     a.is_inside(b) && !b.is_inside(a)
 }
@@ -25,7 +25,7 @@ fn strictly_inside<R: Family>(a: R, b: R) -> bool
 fn collect_nested<R: Family>(listed: &[R], region: R, out: &mut [usize]) -> usize
     requires { length listed.now ≤ length out.old }
     ensures within { result ≤ length listed.now }
-    ensures found { take result out.new ≡ nested inside whole listed.now region }
+    ensures found { take result out.new ≡ nested R.inside R.whole listed.now region }
 {
     let mut count = 0;
     for (number, other) in listed.iter().enumerate() {
@@ -38,7 +38,7 @@ fn collect_nested<R: Family>(listed: &[R], region: R, out: &mut [usize]) -> usiz
 }
 
 fn is_inside_any<R: Family>(listed: &[R], region: R, others: &[usize]) -> bool
-    ensures { result ≡ any_of (above inside (region_at whole listed.now) region) others.now }
+    ensures { result ≡ any_of (above R.inside (region_at R.whole listed.now) region) others.now }
 {
     for other in others {
         if strictly_inside(region, region_at(listed, *other)) {
@@ -52,7 +52,7 @@ fn is_inside_any<R: Family>(listed: &[R], region: R, others: &[usize]) -> bool
 fn collect_outermost<R: Family>(listed: &[R], inner: &[usize], out: &mut [usize]) -> usize
     requires { length inner.now ≤ length out.old }
     ensures within { result ≤ length inner.now }
-    ensures found { take result out.new ≡ outermost inside (region_at whole listed.now) inner.now }
+    ensures found { take result out.new ≡ outermost R.inside (region_at R.whole listed.now) inner.now }
 {
     let mut count = 0;
     for hole in inner {
@@ -69,7 +69,7 @@ pub(crate) fn write_holes_of<R: Family>(listed: &[R], region: R, out: &mut [usiz
     requires listed { length listed.now ≤ 1024 }
     requires fits { length listed.now ≤ length out.old }
     ensures within { result ≤ length listed.now }
-    ensures found { take result out.new ≡ holes_of inside whole listed.now region }
+    ensures found { take result out.new ≡ holes_of R.inside R.whole listed.now region }
 {
     let mut inner = [0; 1024];
     let count = collect_nested(listed, region, &mut inner);
@@ -77,7 +77,7 @@ pub(crate) fn write_holes_of<R: Family>(listed: &[R], region: R, out: &mut [usiz
 }
 
 fn is_held<R: Family>(listed: &[R], point: R::Point, holes: &[usize]) -> bool
-    ensures { result ≡ any_of (holding holds (region_at whole listed.now) point) holes.now }
+    ensures { result ≡ any_of (holding R.holds (region_at R.whole listed.now) point) holes.now }
 {
     for hole in holes {
         if region_at(listed, *hole).holds_point(point) {
@@ -89,7 +89,7 @@ fn is_held<R: Family>(listed: &[R], point: R::Point, holes: &[usize]) -> bool
 
 // Whether a point lies in the cell that is given by its region's number and then its holes'.
 fn is_in_cell<R: Family>(listed: &[R], cell: &[usize], point: R::Point) -> bool
-    ensures { result ≡ in_cell holds (region_at whole listed.now) cell.now point }
+    ensures { result ≡ in_cell R.holds (region_at R.whole listed.now) cell.now point }
 {
     let [own, holes @ ..] = cell else {
         return false;
@@ -100,7 +100,7 @@ fn is_in_cell<R: Family>(listed: &[R], cell: &[usize], point: R::Point) -> bool
 // Whether shifts along `left` axes from `axis` on, from the point, reach a point of the cell.
 fn is_reached<R: Family>(listed: &[R], cell: &[usize], left: u8, axis: u8, point: R::Point) -> bool
     requires { left + axis < 256 }
-    ensures { result ≡ reaches shifted (region_at whole listed.now) (in_cell holds (region_at whole listed.now) cell.now) cell.now left axis point }
+    ensures { result ≡ reaches R.shifted (region_at R.whole listed.now) (in_cell R.holds (region_at R.whole listed.now) cell.now) cell.now left axis point }
 {
     if left == 0 {
         return is_in_cell(listed, cell, point);
@@ -134,7 +134,7 @@ fn is_reached<R: Family>(listed: &[R], cell: &[usize], left: u8, axis: u8, point
 
 // The region's own near corner: the first point shifted to its near edge along each axis.
 fn near_corner<R: Family>(region: R) -> R::Point
-    ensures { result ≡ cornered shifted region axes 1 first }
+    ensures { result ≡ cornered R.shifted region R.axes 1 R.first }
 {
     let mut point = R::first_point();
     for axis in 0..R::axis_count() {
@@ -145,7 +145,7 @@ fn near_corner<R: Family>(region: R) -> R::Point
 
 // Whether a cell holds a point: its region's near corner is tried before all other points that shifts reach.
 pub(crate) fn is_occupied<R: Family>(listed: &[R], cell: &[usize]) -> bool
-    ensures { result ≡ occupied first axes holds shifted (region_at whole listed.now) cell.now }
+    ensures { result ≡ occupied R.first R.axes R.holds R.shifted (region_at R.whole listed.now) cell.now }
 {
     let [own, ..] = cell else {
         return false;

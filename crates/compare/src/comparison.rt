@@ -22,9 +22,9 @@ fn report_on<R: Family, A: ActionKind>(
     holes: &mut [usize],
 ) -> Result<Report, Declined>
     requires { length listed.now ≤ 1024 }
-    ensures outcome { result ≡ report_on whole first axes holds inside meet shifted alike (sealed_view reject left.now) (sealed_view reject right.now) listed.now (length rows.old) (length holes.old) }
-    ensures rows { rows.new ≡ unless_declined result (rows_in whole first axes holds inside meet shifted alike (sealed_view reject left.now) (sealed_view reject right.now) listed.now) rows.old }
-    ensures holes { holes.new ≡ unless_declined result (holes_in whole first axes holds inside meet shifted alike (sealed_view reject left.now) (sealed_view reject right.now) listed.now) holes.old }
+    ensures outcome { result ≡ report_on R.whole R.first R.axes R.holds R.inside R.meet R.shifted A.alike (sealed_view A.reject left.now) (sealed_view A.reject right.now) listed.now (length rows.old) (length holes.old) }
+    ensures rows { rows.new ≡ unless_declined result (rows_in R.whole R.first R.axes R.holds R.inside R.meet R.shifted A.alike (sealed_view A.reject left.now) (sealed_view A.reject right.now) listed.now) rows.old }
+    ensures holes { holes.new ≡ unless_declined result (holes_in R.whole R.first R.axes R.holds R.inside R.meet R.shifted A.alike (sealed_view A.reject left.now) (sealed_view A.reject right.now) listed.now) holes.old }
 {
     let mut found = [Row {
         left: 0,
@@ -65,11 +65,11 @@ pub fn compare<R: Family, A: ActionKind>(
     rows: &mut [Row],
     holes: &mut [usize],
 ) -> Result<Report, Declined>
-    ensures outcome { result ≡ outcome whole first axes holds inside meet shifted alike (sealed_view reject left.now) (sealed_view reject right.now) (length regions.old) (length rows.old) (length holes.old) }
-    ensures regions { regions.new ≡ regions_after whole first axes holds inside meet shifted alike (sealed_view reject left.now) (sealed_view reject right.now) regions.old }
-    ensures rows { rows.new ≡ unless_declined result (rows_in whole first axes holds inside meet shifted alike (sealed_view reject left.now) (sealed_view reject right.now) (list_for whole first axes holds inside meet shifted alike (sealed_view reject left.now) (sealed_view reject right.now) (length regions.old))) rows.old }
-    ensures holes { holes.new ≡ unless_declined result (holes_in whole first axes holds inside meet shifted alike (sealed_view reject left.now) (sealed_view reject right.now) (list_for whole first axes holds inside meet shifted alike (sealed_view reject left.now) (sealed_view reject right.now) (length regions.old))) holes.old }
-    ensures right { Rightly whole axes holds inside alike (sealed_view reject left.now) (sealed_view reject right.now) (length regions.old) (length rows.old) (length holes.old) result regions.new rows.new holes.new }
+    ensures outcome { result ≡ outcome R.whole R.first R.axes R.holds R.inside R.meet R.shifted A.alike (sealed_view A.reject left.now) (sealed_view A.reject right.now) (length regions.old) (length rows.old) (length holes.old) }
+    ensures regions { regions.new ≡ regions_after R.whole R.first R.axes R.holds R.inside R.meet R.shifted A.alike (sealed_view A.reject left.now) (sealed_view A.reject right.now) regions.old }
+    ensures rows { rows.new ≡ unless_declined result (rows_in R.whole R.first R.axes R.holds R.inside R.meet R.shifted A.alike (sealed_view A.reject left.now) (sealed_view A.reject right.now) (list_for R.whole R.first R.axes R.holds R.inside R.meet R.shifted A.alike (sealed_view A.reject left.now) (sealed_view A.reject right.now) (length regions.old))) rows.old }
+    ensures holes { holes.new ≡ unless_declined result (holes_in R.whole R.first R.axes R.holds R.inside R.meet R.shifted A.alike (sealed_view A.reject left.now) (sealed_view A.reject right.now) (list_for R.whole R.first R.axes R.holds R.inside R.meet R.shifted A.alike (sealed_view A.reject left.now) (sealed_view A.reject right.now) (length regions.old))) holes.old }
+    ensures right { Rightly R.whole R.axes R.holds R.inside A.alike (sealed_view A.reject left.now) (sealed_view A.reject right.now) (length regions.old) (length rows.old) (length holes.old) result regions.new rows.new holes.new }
 {
     if R::axis_count() > MOST_AXES {
         return Err(Declined::TooManyAxes);

@@ -6,13 +6,13 @@ ghost use Rattle.compare.specs.Written.{Written};
 use family::{ActionKind, Clause, Family};
 
 fn same_region<R: Family>(a: R, b: R) -> bool
-    ensures { result ≡ same inside a b }
+    ensures { result ≡ same R.inside a b }
 {
     a.is_inside(b) && b.is_inside(a)
 }
 
 fn is_standing<R: Family>(listed: &[R], region: R) -> bool
-    ensures { result ≡ stands inside region listed.now }
+    ensures { result ≡ stands R.inside region listed.now }
 {
     for x in listed {
         if same_region(region, *x) {
@@ -25,7 +25,7 @@ fn is_standing<R: Family>(listed: &[R], region: R) -> bool
 // Puts the region behind the first `count` unless it stands among them.
 fn put_region<R: Family>(regions: &mut [R], count: usize, region: R) -> Option<usize>
     requires { count ≤ length regions.old }
-    ensures { Written regions.old (put inside (take count regions.old) region) result regions.new }
+    ensures { Written regions.old (put R.inside (take count regions.old) region) result regions.new }
 {
     if is_standing(&regions[0..count], region) {
         return Some(count);
@@ -43,7 +43,7 @@ fn put_clauses<R: Family, A: ActionKind>(
     clauses: &[Clause<R, A>],
 ) -> Option<usize>
     requires { start ≤ length regions.old }
-    ensures { Written regions.old (put_clauses inside clauses.now (take start regions.old)) result regions.new }
+    ensures { Written regions.old (put_clauses R.inside clauses.now (take start regions.old)) result regions.new }
 {
     let mut count = start;
     for clause in clauses {
@@ -57,7 +57,7 @@ fn put_clauses<R: Family, A: ActionKind>(
 
 fn put_meet<R: Family>(regions: &mut [R], count: usize, region: R, other: R) -> Option<usize>
     requires { count ≤ length regions.old }
-    ensures { Written regions.old (put_meet inside (take count regions.old) (meet region other)) result regions.new }
+    ensures { Written regions.old (put_meet R.inside (take count regions.old) (R.meet region other)) result regions.new }
 {
     match region.meet_with(other) {
         Some(both) => put_region(regions, count, both),
@@ -69,7 +69,7 @@ fn put_meet<R: Family>(regions: &mut [R], count: usize, region: R, other: R) -> 
 fn put_meets<R: Family>(regions: &mut [R], start: usize, region: R, before: usize) -> Option<usize>
     requires listed { before ≤ start }
     requires fits { start ≤ length regions.old }
-    ensures { Written regions.old (put_meets inside meet region (take before regions.old) (take start regions.old)) result regions.new }
+    ensures { Written regions.old (put_meets R.inside R.meet region (take before regions.old) (take start regions.old)) result regions.new }
 {
     let mut count = start;
     for b in 0..before {
@@ -85,7 +85,7 @@ fn put_meets<R: Family>(regions: &mut [R], start: usize, region: R, before: usiz
 // Goes on to the growing end.
 fn grow<R: Family>(regions: &mut [R], start: usize) -> Option<usize>
     requires { start ≤ length regions.old }
-    ensures { Written regions.old (grown inside meet (length regions.old) 0 (take start regions.old)) result regions.new }
+    ensures { Written regions.old (grown R.inside R.meet (length regions.old) 0 (take start regions.old)) result regions.new }
 {
     let mut count = start;
     let mut a = 0;
@@ -106,7 +106,7 @@ pub(crate) fn gather<R: Family, A: ActionKind>(
     left: &[Clause<R, A>],
     right: &[Clause<R, A>],
 ) -> Option<usize>
-    ensures { Written regions.old (region_list inside meet (length regions.old) whole left.now right.now) result regions.new }
+    ensures { Written regions.old (region_list R.inside R.meet (length regions.old) R.whole left.now right.now) result regions.new }
 {
     let Some(first) = put_region(regions, 0, R::whole_region()) else {
         return None;

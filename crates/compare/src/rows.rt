@@ -22,8 +22,8 @@ pub struct Row {
 
 // The place and the action that decide a region's cell.
 fn decide<R: Family, A: ActionKind>(clauses: &[Clause<R, A>], default: A, region: R) -> (usize, A)
-    ensures place { result.0 ≡ place_of inside clauses.now region }
-    ensures action { result.1 ≡ action_at clauses.now default (place_of inside clauses.now region) }
+    ensures place { result.0 ≡ place_of R.inside clauses.now region }
+    ensures action { result.1 ≡ action_at clauses.now default (place_of R.inside clauses.now region) }
 {
     for (place, clause) in clauses.iter().enumerate() {
         if region.is_inside(clause.region) {
@@ -75,7 +75,7 @@ fn row_of<R: Family, A: ActionKind>(
     right_default: A,
 ) -> Option<Row>
     requires { length listed.now ≤ 1024 }
-    ensures { result ≡ row_at whole first axes holds inside shifted alike listed.now left.now left_default right.now right_default number }
+    ensures { result ≡ row_at R.whole R.first R.axes R.holds R.inside R.shifted A.alike listed.now left.now left_default right.now right_default number }
 {
     let region = region_at(listed, number);
     let (left_place, left_action) = decide(left, left_default, region);
@@ -109,7 +109,7 @@ pub(crate) fn find_rows<R: Family, A: ActionKind>(
     requires listed { length listed.now ≤ 1024 }
     requires fits { length listed.now ≤ length found.old }
     ensures within { result ≤ length listed.now }
-    ensures rows { take result found.new ≡ rows_found whole first axes holds inside shifted alike listed.now left.now left_default right.now right_default }
+    ensures rows { take result found.new ≡ rows_found R.whole R.first R.axes R.holds R.inside R.shifted A.alike listed.now left.now left_default right.now right_default }
 {
     let mut count = 0;
     for number in 0..listed.len() {
@@ -155,8 +155,8 @@ pub(crate) fn lay_rows(found: &[Row], rows: &mut [Row])
 // Writes a region's holes from a place on, and answers the place behind them.
 fn copy_holes<R: Family>(listed: &[R], region: R, holes: &mut [usize], at: usize) -> usize
     requires listed { length listed.now ≤ 1024 }
-    requires fits { at + length (holes_of inside whole listed.now region) ≤ length holes.old }
-    ensures { Written holes.old (take at holes.old ++ holes_of inside whole listed.now region) (Some result) holes.new }
+    requires fits { at + length (holes_of R.inside R.whole listed.now region) ≤ length holes.old }
+    ensures { Written holes.old (take at holes.old ++ holes_of R.inside R.whole listed.now region) (Some result) holes.new }
 {
     let mut own = [0; 1024];
     let count = write_holes_of(listed, region, &mut own);
@@ -168,8 +168,8 @@ fn copy_holes<R: Family>(listed: &[R], region: R, holes: &mut [usize], at: usize
 // Writes the holes of all rows, one row after the other.
 pub(crate) fn write_holes<R: Family>(listed: &[R], rows: &[Row], holes: &mut [usize])
     requires listed { length listed.now ≤ 1024 }
-    requires fits { length (holes_of_rows inside whole listed.now rows.now) ≤ length holes.old }
-    ensures { Written holes.old (holes_of_rows inside whole listed.now rows.now) (Some (length (holes_of_rows inside whole listed.now rows.now))) holes.new }
+    requires fits { length (holes_of_rows R.inside R.whole listed.now rows.now) ≤ length holes.old }
+    ensures { Written holes.old (holes_of_rows R.inside R.whole listed.now rows.now) (Some (length (holes_of_rows R.inside R.whole listed.now rows.now))) holes.new }
 {
     let mut at = 0;
     for row in rows {

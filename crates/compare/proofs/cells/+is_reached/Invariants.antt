@@ -3,8 +3,8 @@ use Rattle.family.specs.Lists.{any_of}
 use Rattle.compare.specs.Cells.{region_at, in_cell, reaches_by}
 use Rattle.compare.proofs.cells.+is_reached.Given as goal
 
-abbrev pub decreases-is-reached : goal.decreases-is-reached
-decreases-is-reached g l = l.left
+abbrev pub decreases-is_reached : goal.decreases-is_reached
+decreases-is_reached g l = l.left
 
 abbrev pub invariant-loop-number : goal.invariant-loop-number
 invariant-loop-number g l =

@@ -7,7 +7,7 @@ pub loop-row-preserved : goal.loop-row-preserved
 loop-row-preserved c =
     let rows = c.args.rows.now in
     let read = get_or_default rows c.loop-row.row-index (record { left = 0; right = 0; region = 0; start = 0; number = 0 }) _ c.loop-row-test.true in
-    omega (arith, c.saturating-add-total.ensures, c.loop-row.invariant, start-more rows rows c.loop-row.row-index _ c.loop-row-test.true read)
+    omega (arith, c.saturating_add-total.ensures, c.loop-row.invariant, start-more rows rows c.loop-row.row-index _ c.loop-row-test.true read)
 
 pub returns : goal.returns
 returns c =

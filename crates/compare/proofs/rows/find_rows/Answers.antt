@@ -9,10 +9,10 @@ loop-number-preserved g c =
     let m = g.R.Family in
     let i = c.loop-number.number in
     let listed = c.args.listed.now in
-    let more = ranked_from m.whole m.first m.axes m.holds m.inside m.shifted g.A.ActionKind.alike listed c.args.left.now c.args.left-default c.args.right.now c.args.right-default in
+    let more = ranked_from m.whole m.first m.axes m.holds m.inside m.shifted g.A.ActionKind.alike listed c.args.left.now c.args.left_default c.args.right.now c.args.right_default in
     let sofar = take c.loop-number.count c.loop-number.found in (
-      omega (arith, c.put-row-count.ensures.within, c.loop-number.invariant.0),
-      ap (λ rows. more rows (numbers (i + 1) (drop (i + 1) listed))) (c.put-row-count.ensures.rows ∙ ap (ranked_some sofar) c.row-of.ensures)
+      omega (arith, c.put_row-count.ensures.within, c.loop-number.invariant.0),
+      ap (λ rows. more rows (numbers (i + 1) (drop (i + 1) listed))) (c.put_row-count.ensures.rows ∙ ap (ranked_some sofar) c.row_of.ensures)
           ∙ sym (ap (more sofar) (numbers_at listed i c.loop-number-test.true))
           ∙ c.loop-number.invariant.1,
     )
@@ -21,7 +21,7 @@ pub returns : goal.returns
 returns g c =
     let m = g.R.Family in
     let listed = c.args.listed.now in
-    let more = ranked_from m.whole m.first m.axes m.holds m.inside m.shifted g.A.ActionKind.alike listed c.args.left.now c.args.left-default c.args.right.now c.args.right-default in
+    let more = ranked_from m.whole m.first m.axes m.holds m.inside m.shifted g.A.ActionKind.alike listed c.args.left.now c.args.left_default c.args.right.now c.args.right_default in
     let sofar = take c.loop-number.count c.loop-number.found in
     record {
       within = omega (arith, c.loop-number.invariant.0, c.loop-number.auto.number-end);

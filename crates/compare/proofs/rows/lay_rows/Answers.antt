@@ -4,8 +4,8 @@ use Rattle.compare.specs.Rows.{laid}
 use Rattle.compare.proofs.LaidOut.{hole_count, start-more, start_fits, laid_more}
 use Rattle.compare.proofs.rows.lay_rows.Goals as goal
 
-pub overflow-add-start : goal.overflow-add-start
-overflow-add-start c = record { fits = omega (arith, start_fits c.args.found.now c.args.rows.now c.loop-place.place _ c.loop-place-test.true (get_or_default c.args.found.now c.loop-place.place (record { left = 0; right = 0; region = 0; start = 0; number = 0 }) _ c.loop-place-test.true), c.loop-place.invariant.0, c.requires.few) }
+pub overflow_add-start : goal.overflow_add-start
+overflow_add-start c = record { fits = omega (arith, start_fits c.args.found.now c.args.rows.now c.loop-place.place _ c.loop-place-test.true (get_or_default c.args.found.now c.loop-place.place (record { left = 0; right = 0; region = 0; start = 0; number = 0 }) _ c.loop-place-test.true), c.loop-place.invariant.0, c.requires.few) }
 
 pub loop-place-preserved : goal.loop-place-preserved
 loop-place-preserved c =

@@ -10,7 +10,7 @@ returns c =
     let found = c.args.found.now in
     record {
       within = omega arith;
-      rows = put-ranked found c.args.count c.in-Some.row c.requires c.rank-place.result c.insert-at.result c.insert-at.new.places
-          (c.rank-place.ensures ∙ ap (first_where (precedes c.in-Some.row)) (lent_front c.args.count found)) c.insert-at.ensures.answer c.insert-at.ensures.memory
+      rows = put-ranked found c.args.count c.in-Some.row c.requires c.rank-place.result c.insert_at.result c.insert_at.new.places
+          (c.rank-place.ensures ∙ ap (first_where (precedes c.in-Some.row)) (lent_front c.args.count found)) c.insert_at.ensures.answer c.insert_at.ensures.memory
           ∙ sym (ap (ranked_some (take c.args.count found)) c.in-Some.is);
     }

@@ -11,14 +11,14 @@ use Rattle.compare.proofs.rows.write_holes.Goals as goal
 pub loop-row-init : goal.loop-row-init
 loop-row-init g c = (refl, omega arith, refl)
 
-pub copy-holes-at-requires : goal.copy-holes-at-requires
-copy-holes-at-requires g c =
+pub copy_holes-at-requires : goal.copy_holes-at-requires
+copy_holes-at-requires g c =
     let m = g.R.Family in
     let add = add_holes m.inside m.whole c.args.listed.now in
     let rows = c.args.rows.now in
     let next = fold_more add [] rows c.loop-row.row-index (record { left = 0; right = 0; region = 0; start = 0; number = 0 }) c.loop-row-test.true in
     let within = extends_length _ _ (folded_front add (add_holes_extends m.inside m.whole c.args.listed.now) [] (c.loop-row.row-index + 1) rows) in
-    let held = ap (λ r. length (holes_of m.inside m.whole c.args.listed.now r)) c.region-at.ensures in
+    let held = ap (λ r. length (holes_of m.inside m.whole c.args.listed.now r)) c.region_at.ensures in
     record {
       listed = c.requires.listed;
       fits = omega (arith, ap length next, within, held, length-append (fold add [] (take c.loop-row.row-index rows)) (holes_of m.inside m.whole c.args.listed.now (region_at m.whole c.args.listed.now (get_or rows c.loop-row.row-index (record { left = 0; right = 0; region = 0; start = 0; number = 0 })).region)), c.loop-row.invariant.0, c.requires.fits, c.loop-row.auto.holes);
@@ -29,8 +29,8 @@ loop-row-preserved g c =
     let m = g.R.Family in
     let xs = c.args.listed.now in
     let add = add_holes m.inside m.whole xs in
-    let put = subst (λ r. Written c.loop-row.holes (take c.loop-row.at c.loop-row.holes ++ holes_of m.inside m.whole xs r) (Some c.copy-holes-at.result) c.copy-holes-at.new.holes) c.region-at.ensures c.copy-holes-at.ensures in
-    written_step add (add_holes_extends m.inside m.whole xs) c.args.holes.now [] c.args.rows.now c.loop-row.row-index _ c.loop-row.at c.loop-row.holes (Some c.copy-holes-at.result) c.copy-holes-at.new.holes c.loop-row.invariant c.loop-row-test.true (get_or_default c.args.rows.now c.loop-row.row-index (record { left = 0; right = 0; region = 0; start = 0; number = 0 }) _ c.loop-row-test.true) put
+    let put = subst (λ r. Written c.loop-row.holes (take c.loop-row.at c.loop-row.holes ++ holes_of m.inside m.whole xs r) (Some c.copy_holes-at.result) c.copy_holes-at.new.holes) c.region_at.ensures c.copy_holes-at.ensures in
+    written_step add (add_holes_extends m.inside m.whole xs) c.args.holes.now [] c.args.rows.now c.loop-row.row-index _ c.loop-row.at c.loop-row.holes (Some c.copy_holes-at.result) c.copy_holes-at.new.holes c.loop-row.invariant c.loop-row-test.true (get_or_default c.args.rows.now c.loop-row.row-index (record { left = 0; right = 0; region = 0; start = 0; number = 0 }) _ c.loop-row-test.true) put
 
 pub returns : goal.returns
 returns g c =
