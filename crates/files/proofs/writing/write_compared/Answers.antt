@@ -20,7 +20,7 @@ returns c =
     let compared : Ok text ≡ files_compared c.args.left.now c.args.right.now =
     ap Ok (same-listing found.lefts found.rights c.front.ensures c.front-2.ensures c.front-3.ensures) ∙ c.in-Ok.ensures in
     record {
-      answer = c.ok-or.ensures.value ∙ ap (λ r. ok_or r TooLong) c.write-listing-written.ensures.answer ∙ answer out text c.min-room.result used ∙ ap (written_answer out) compared;
-      bytes = back out text c.min-room.result used c.write-listing-written.new.out c.write-listing-written.ensures.bytes ∙ ap (buffer_after out) compared;
+      answer = c.ok_or.ensures.value ∙ ap (λ r. ok_or r TooLong) c.write_listing-written.ensures.answer ∙ answer out text c.min-room.result used ∙ ap (written_answer out) compared;
+      bytes = back out text c.min-room.result used c.write_listing-written.new.out c.write_listing-written.ensures.bytes ∙ ap (buffer_after out) compared;
       meaning = files_meant c.args.left.now c.args.right.now;
     }

@@ -5,6 +5,6 @@ use Rattle.listing.proofs.declines.declined_text.Goals as goal
 
 pub returns : goal.returns
 returns c =
-    let made = c.in-ok-text.ensures.made in
-    filled {s = declined_text c.args.declined} c.put-declined.ensures c.in-ok-text.text.len _ c.deref-mut.ensures.len
+    let made = c.in_ok-text.ensures.len in
+    filled {s = declined_text c.args.declined} c.put_declined.ensures c.in_ok-text.text.len _ c.deref_mut.ensures.len
     (omega arith)

@@ -4,4 +4,4 @@ use Rattle.listing.proofs.declines.write_declined.Goals as goal
 
 pub returns : goal.returns
 returns c =
-    record { answer = answered c.put-declined-2.ensures (omega arith); bytes = held c.put-declined-2.ensures (omega arith) }
+    record { answer = answered c.put_declined-2.ensures (omega arith); bytes = held c.put_declined-2.ensures (omega arith) }

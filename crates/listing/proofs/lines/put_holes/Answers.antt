@@ -8,7 +8,7 @@ pub loop-hole-preserved : goal.loop-hole-preserved
 loop-hole-preserved c =
     placed_same
     (joined-take (hole_text c.args.regions.now) c.args.holes.now c.loop-hole.hole-index 0 _ c.loop-hole-test.true refl)
-    (c.loop-hole.invariant then (c.put-text-behind.ensures then c.put-numbered-end.ensures))
+    (c.loop-hole.invariant then (c.put_text-behind.ensures then c.put_numbered-end.ensures))
 
 pub returns : goal.returns
 returns c =

@@ -7,7 +7,7 @@ pub returns-then-number-regions : goal.returns-then-number-regions
 returns-then-number-regions c =
     placed_same
     (numbered_there c.args.regions.now c.args.number c.index-regions-number.result c.if-number-regions.true c.index-regions-number.is)
-    c.put-region.ensures
+    c.put_region.ensures
 
 pub returns-else-number-regions : goal.returns-else-number-regions
 returns-else-number-regions c =

@@ -4,4 +4,4 @@ use Rattle.listing.proofs.listings.put_listing.Goals as goal
 
 pub returns : goal.returns
 unfolding listing
-returns c = c.put-text-at.ensures then c.put-number-at.ensures then c.put-byte-at.ensures then c.put-rows.ensures
+returns c = c.put_text-at.ensures then c.put_number-at.ensures then c.put_byte-at.ensures then c.put_rows.ensures

@@ -14,7 +14,7 @@ loop-row-preserved c =
     placed_same
     (joined-take (row_text c.args.regions.now c.args.holes.now c.args.lefts c.args.rights) c.args.rows.now c.loop-row.row-index
     past (get_or c.args.rows.now c.loop-row.row-index past) c.loop-row-test.true refl)
-    (c.loop-row.invariant then c.put-row-end.ensures)
+    (c.loop-row.invariant then c.put_row-end.ensures)
 
 pub returns : goal.returns
 returns c =

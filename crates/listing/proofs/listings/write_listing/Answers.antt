@@ -4,4 +4,4 @@ use Rattle.listing.proofs.listings.write_listing.Goals as goal
 
 pub returns : goal.returns
 returns c =
-    record { answer = answered c.put-listing.ensures (omega arith); bytes = held c.put-listing.ensures (omega arith) }
+    record { answer = answered c.put_listing.ensures (omega arith); bytes = held c.put_listing.ensures (omega arith) }

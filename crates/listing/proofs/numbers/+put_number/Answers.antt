@@ -4,9 +4,9 @@ use Rattle.buffers.proofs.Placing.{placed_same, ◌then◌}
 use Rattle.listing.proofs.numbers.+put_number.Goals as goal
 
 pub returns-then-number-lt10 : goal.returns-then-number-lt10
-returns-then-number-lt10 t c = placed_same (sym (decimal_digit c.args.number (omega arith))) c.put-byte.ensures
+returns-then-number-lt10 t c = placed_same (sym (decimal_digit c.args.number (omega arith))) c.put_byte.ensures
 
 pub returns : goal.returns
 returns t c =
     placed_same (sym (decimal_step c.args.number (omega arith) (omega arith)))
-    (c.put-number-last.ensures then c.put-byte-2.ensures)
+    (c.put_number-last.ensures then c.put_byte-2.ensures)

@@ -6,7 +6,7 @@ use Rattle.listing.proofs.octets.put_octet.Goals as goal
 pub returns : goal.returns
 returns c =
     let n : ℕ = c.args.octet in
-    let z : ℕ = c.leading-zeros.result in
+    let z : ℕ = c.leading_zeros.result in
     placed_same
-    (ap (λ t. take (3 * n + 3 - (3 * n + z)) (drop (3 * n + z) t)) c.spelled-octets.ensures ∙ printed_part n z (omega arith) c.leading-zeros.ensures)
-    c.put-text.ensures
+    (ap (λ t. take (3 * n + 3 - (3 * n + z)) (drop (3 * n + z) t)) c.spelled_octets.ensures ∙ printed_part n z (omega arith) c.leading_zeros.ensures)
+    c.put_text.ensures

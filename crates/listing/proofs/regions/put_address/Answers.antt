@@ -4,6 +4,6 @@ use Rattle.listing.proofs.regions.put_address.Goals as goal
 pub returns : goal.returns
 returns c =
     let p =
-    c.put-octet-at.ensures then c.put-byte-at.ensures then c.put-octet-at-2.ensures then c.put-byte-at-2.ensures
-    then c.put-octet-at-3.ensures then c.put-byte-at-3.ensures then c.put-octet.ensures in
-    placed_same (simp c.to-be-bytes.ensures) p
+    c.put_octet-at.ensures then c.put_byte-at.ensures then c.put_octet-at-2.ensures then c.put_byte-at-2.ensures
+    then c.put_octet-at-3.ensures then c.put_byte-at-3.ensures then c.put_octet.ensures in
+    placed_same (simp c.to_be_bytes.ensures) p
