@@ -10,9 +10,9 @@ returns-in-Ok c =
     let r = sealed_view rejected c.args.right.now in
     let told = c.in-Ok.ensures in
     shown_after l r c.args.regions.now c.compare.new.regions c.args.rows.now c.compare.new.rows c.args.holes.now c.compare.new.holes
-    (length c.clauses.result.now) (length c.clauses_in-Ok.result.now) (Ok c.in-Ok.report)
+    (length c.clauses.result.now) (length c.clauses-in-Ok.result.now) (Ok c.in-Ok.report)
     c.requires.regions c.requires.rows c.requires.holes told.outcome told.regions told.rows told.holes
-    (ap length c.clauses.ensures) (ap length c.clauses_in-Ok.ensures)
+    (ap length c.clauses.ensures) (ap length c.clauses-in-Ok.ensures)
 
 pub returns-in-Err : goal.returns-in-Err
 returns-in-Err c =
