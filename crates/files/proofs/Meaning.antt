@@ -6,7 +6,8 @@ use Rattle.family.specs.declared.clauses.Clause.{Clause}
 use Rattle.supplied.specs.declared.actions.RouteAction.{RouteAction}
 use Rattle.supplied.specs.declared.ranges.PrefixRange.{PrefixRange}
 use Rattle.supplied.specs.Actions.{same_action}
-use Rattle.supplied.specs.PrefixRanges.{whole_prefix, first_of_routes, prefix_holds, prefix_inside, prefix_meet, route_shifted, prefix_laws}
+use Rattle.supplied.specs.PrefixRanges.{whole_prefix, first_of_routes, prefix_holds, prefix_inside, prefix_meet, route_shifted}
+use Rattle.supplied.proofs.PrefixLaws.{prefix_laws}
 use Rattle.fields.specs.declared.faults.Fault.{Fault}
 use Rattle.compare.specs.declared.reports.Declined.{Declined}
 use Rattle.compare.specs.declared.reports.Report.{Report}

@@ -2,11 +2,11 @@
 use Rattle.std.specs.Prelude.{◌≡◌, ℕ, ◌+◌, ◌-◌, ◌<◌, ◌≤◌, Bool, true, false, ◌&&◌, ◌⊎◌, List, ◌++◌, map, length, Some, None, Option, ◌≢◌, refl}
 use Rattle.std.proofs.Common.{sym, ap, ap₂, ◌∙◌, inl, inr, ⊎_elim, arith, length-append}
 use mathlib.Core.List.{Memᴰ}
-use Rattle.std.proofs.lemmas.Bool.{and_parts, and_from, cases_lt}
+use Rattle.std.proofs.lemmas.Bool.{le-leb, lt-leb, and_parts, and_from, cases_lt}
 use Rattle.family.specs.declared.edges.Edge.{Edge}
 use Rattle.family.specs.Families.{FamilyLaws, Choice, walked, AllFrom}
 use Rattle.supplied.specs.Pairs.{pair, both_some, pair_axes, pair_holds, pair_inside, pair_meet, pair_shifted}
-use Rattle.supplied.specs.PairShifts.{first_of, second_of, many_axes, along_first, along_second, walked_both}
+use Rattle.supplied.specs.PairShifts.{first_of, second_of, walked_both}
 use Rattle.supplied.specs.Walks.{seen, all_append, reached_through}
 use Rattle.supplied.specs.declared.pairs.Pair.{Pair}
 
@@ -95,28 +95,6 @@ module _ {R P S Q : Type 0} {whole_f : R} {first_f : P} {m : ℕ} {holds_f : R �
       (λ (e : meet_g a.second b.second ≡ None). g.no_meet a.second b.second e p.second ga gb)
       (one_none (meet_f a.first b.first) (meet_g a.second b.second) h)
 
-  other_axis : (p : Pair P Q) (axis : ℕ) (e : Edge) (r : Pair R S) → (axis ≡ 0) ⊎ ((pair_axes m n < axis) ⊎ (pair_axes m n ≡ 5)) → shifted p axis e r ≡ p
-  other_axis p axis e r h =
-      ⊎_elim
-      (λ (few : m + n < 5). let few' : m + n ≤ 4 = omega arith in
-      ⊎_elim
-      (λ (lt : m < axis). along_second m n shifted_f shifted_g few' p axis e r lt ∙ ap (pair p.first) (g.other_axis p.second (axis - m) e r.second (inr (inl (omega arith)))))
-      (λ (le : axis ≤ m). along_first m n shifted_f shifted_g few' p axis e r le ∙ ap (λ (x : P). pair x p.second) (f.other_axis p.first axis e r.first (inl (omega arith))))
-      (cases_lt m axis))
-      (λ (many : 5 ≤ m + n). many_axes m n shifted_f shifted_g p axis e r many) (cases_lt (m + n) 5)
-
-  -- choices for one part and for the other lead to both parts' points
-  both_reached : (p : Pair P Q) (r : Pair R S) (xs ys : List (Choice (Pair R S))) → m + n ≤ 4 → length xs ≡ m → holds_f r.first (walked shifted_f first_f 1 (map (seen first_of) xs)) ≡ holds_f r.first p.first → holds_g r.second (walked shifted_g first_g 1 (map (seen second_of) ys)) ≡ holds_g r.second p.second → holds r (walked shifted (pair first_f first_g) 1 (xs ++ ys)) ≡ holds r p
-  both_reached p r xs ys few len h k =
-      ap (holds r) (walked_both m n shifted_f shifted_g few (pair first_f first_g) xs ys len) ∙ ap₂ ◌&&◌ h k
-
-  reached : pair_axes m n ≤ 4 → (p : Pair P Q) (rs : List (Pair R S)) → (cs : List (Choice (Pair R S))) × (length cs ≡ pair_axes m n) × AllFrom rs cs × ((r : Pair R S) → Memᴰ r rs → holds r (walked shifted (pair first_f first_g) 1 cs) ≡ holds r p)
-  reached few p rs =
-      let sum : m + n ≤ 4 = omega arith in
-      let (xs, lx, ax, sx) = reached_through f first_of (omega arith) p.first rs in
-      let (ys, ly, ay, sy) = reached_through g second_of (omega arith) p.second rs in
-      (xs ++ ys, omega (arith, length-append xs ys, lx, ly), all_append rs xs ys ax ay, λ r k. both_reached p r xs ys sum lx (sx r k) (sy r k))
-
   pub pair_laws : FamilyLaws (pair whole_f whole_g) (pair first_f first_g) (pair_axes m n) holds inside meet shifted
   pair_laws = record {
     inhabited = λ r. let (p, h) = f.inhabited r.first in
@@ -133,3 +111,34 @@ module _ {R P S Q : Type 0} {whole_f : R} {first_f : P} {m : ℕ} {holds_f : R �
     other_axis = other_axis;
     reached = reached;
   }
+    where
+      along_first : m + n ≤ 4 → (p : Pair P Q) (axis : ℕ) (e : Edge) (r : Pair R S) → axis ≤ m → shifted p axis e r ≡ pair (shifted_f p.first axis e r.first) p.second
+      along_first few p axis e r le = rw (lt-leb 5 (m + n) (omega arith), le-leb axis m le) refl
+
+      along_second : m + n ≤ 4 → (p : Pair P Q) (axis : ℕ) (e : Edge) (r : Pair R S) → m < axis → shifted p axis e r ≡ pair p.first (shifted_g p.second (axis - m) e r.second)
+      along_second few p axis e r lt = rw (lt-leb 5 (m + n) (omega arith), lt-leb axis m lt) refl
+
+      many_axes : (p : Pair P Q) (axis : ℕ) (e : Edge) (r : Pair R S) → 5 ≤ m + n → shifted p axis e r ≡ p
+      many_axes p axis e r many = rw (le-leb 5 (m + n) many) refl
+
+      other_axis : (p : Pair P Q) (axis : ℕ) (e : Edge) (r : Pair R S) → (axis ≡ 0) ⊎ ((pair_axes m n < axis) ⊎ (pair_axes m n ≡ 5)) → shifted p axis e r ≡ p
+      other_axis p axis e r h =
+          ⊎_elim
+          (λ (few : m + n < 5). let few' : m + n ≤ 4 = omega arith in
+          ⊎_elim
+          (λ (lt : m < axis). along_second few' p axis e r lt ∙ ap (pair p.first) (g.other_axis p.second (axis - m) e r.second (inr (inl (omega arith)))))
+          (λ (le : axis ≤ m). along_first few' p axis e r le ∙ ap (λ (x : P). pair x p.second) (f.other_axis p.first axis e r.first (inl (omega arith))))
+          (cases_lt m axis))
+          (λ (many : 5 ≤ m + n). many_axes p axis e r many) (cases_lt (m + n) 5)
+
+      -- choices for one part and for the other lead to both parts' points
+      both_reached : (p : Pair P Q) (r : Pair R S) (xs ys : List (Choice (Pair R S))) → m + n ≤ 4 → length xs ≡ m → holds_f r.first (walked shifted_f first_f 1 (map (seen first_of) xs)) ≡ holds_f r.first p.first → holds_g r.second (walked shifted_g first_g 1 (map (seen second_of) ys)) ≡ holds_g r.second p.second → holds r (walked shifted (pair first_f first_g) 1 (xs ++ ys)) ≡ holds r p
+      both_reached p r xs ys few len h k =
+          ap (holds r) (walked_both m n shifted_f shifted_g (along_first few) (along_second few) (pair first_f first_g) xs ys len) ∙ ap₂ ◌&&◌ h k
+
+      reached : pair_axes m n ≤ 4 → (p : Pair P Q) (rs : List (Pair R S)) → (cs : List (Choice (Pair R S))) × (length cs ≡ pair_axes m n) × AllFrom rs cs × ((r : Pair R S) → Memᴰ r rs → holds r (walked shifted (pair first_f first_g) 1 cs) ≡ holds r p)
+      reached few p rs =
+          let sum : m + n ≤ 4 = omega arith in
+          let (xs, lx, ax, sx) = reached_through f first_of (omega arith) p.first rs in
+          let (ys, ly, ay, sy) = reached_through g second_of (omega arith) p.second rs in
+          (xs ++ ys, omega (arith, length-append xs ys, lx, ly), all_append rs xs ys ax ay, λ r k. both_reached p r xs ys sum lx (sx r k) (sy r k))

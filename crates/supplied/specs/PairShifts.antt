@@ -1,7 +1,6 @@
 -- Shifts of a pair: along each axis one part moves, and a walk moves first the one and then the other.
 use Rattle.std.specs.Prelude.{◌≡◌, ℕ, ◌+◌, ◌-◌, ◌<◌, ◌≤◌, List, [], ◌∷◌, ◌++◌, map, length, refl}
 use Rattle.std.proofs.Common.{ap, ◌∙◌, arith}
-use Rattle.std.proofs.lemmas.Bool.{le-leb, lt-leb}
 use Rattle.family.specs.declared.edges.Edge.{Edge}
 use Rattle.family.specs.Families.{Choice, still, toward, moved, walked}
 use Rattle.supplied.specs.Pairs.{pair, pair_shifted}
@@ -18,16 +17,8 @@ module _ {R P S Q : Type 0} (m n : ℕ) (f : P → ℕ → Edge → R → P) (g 
   abbrev shifted : Pair P Q → ℕ → Edge → Pair R S → Pair P Q
   shifted = pair_shifted m n f g
 
-  pub many_axes : (p : Pair P Q) (axis : ℕ) (e : Edge) (r : Pair R S) → 5 ≤ m + n → shifted p axis e r ≡ p
-  many_axes p axis e r many = rw (le-leb 5 (m + n) many) refl
-
-  module _ (few : m + n ≤ 4) where
-    pub along_first : (p : Pair P Q) (axis : ℕ) (e : Edge) (r : Pair R S) → axis ≤ m → shifted p axis e r ≡ pair (f p.first axis e r.first) p.second
-    along_first p axis e r le = rw (lt-leb 5 (m + n) (omega arith), le-leb axis m le) refl
-
-    pub along_second : (p : Pair P Q) (axis : ℕ) (e : Edge) (r : Pair R S) → m < axis → shifted p axis e r ≡ pair p.first (g p.second (axis - m) e r.second)
-    along_second p axis e r lt = rw (lt-leb 5 (m + n) (omega arith), lt-leb axis m lt) refl
-
+  -- where each axis is one of the parts' axes
+  module _ (along_first : (p : Pair P Q) (axis : ℕ) (e : Edge) (r : Pair R S) → axis ≤ m → shifted p axis e r ≡ pair (f p.first axis e r.first) p.second) (along_second : (p : Pair P Q) (axis : ℕ) (e : Edge) (r : Pair R S) → m < axis → shifted p axis e r ≡ pair p.first (g p.second (axis - m) e r.second)) where
     moved-first : (p : Pair P Q) (axis : ℕ) (c : Choice (Pair R S)) → axis ≤ m → moved shifted p axis c ≡ pair (moved f p.first axis (seen first_of c)) p.second
     moved-first p axis still le = refl
     moved-first p axis (toward e r) le = along_first p axis e r le

@@ -1,11 +1,9 @@
 -- Prefix ranges over addresses of 32 bits as a family.
 use Rattle.std.specs.Prelude.{ℕ, Bool, Option}
 use Rattle.family.specs.declared.edges.Edge.{Edge}
-use Rattle.family.specs.Families.{FamilyLaws}
-use Rattle.supplied.specs.Carried.{carried_holds, carried_inside, carried_meet, carried_shifted, carried_laws}
+use Rattle.supplied.specs.Carried.{carried_holds, carried_inside, carried_meet, carried_shifted}
 use Rattle.supplied.specs.PrefixValues.{range_values, route_values}
 use Rattle.supplied.specs.Ranges.{whole_range, first_route, range_holds, range_inside, range_meet, narrowed, range_shifted}
-use Rattle.supplied.specs.RangeLaws.{range_laws}
 use Rattle.supplied.specs.declared.ranges.PrefixRange.{PrefixRange}
 use Rattle.supplied.specs.declared.routes.Route.{Route}
 
@@ -30,6 +28,3 @@ prefix_narrowed = carried_meet range_values (narrowed 32)
 
 abbrev pub route_shifted : Route → ℕ → Edge → PrefixRange → Route
 route_shifted = carried_shifted range_values route_values (range_shifted 32)
-
-pub prefix_laws : FamilyLaws whole_prefix first_of_routes 2 prefix_holds prefix_inside prefix_meet route_shifted
-prefix_laws = carried_laws range_values route_values (range_laws 32)

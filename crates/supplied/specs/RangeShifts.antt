@@ -6,46 +6,38 @@ use Rattle.std.proofs.lemmas.Bool.{ne_eqb, cases_lt}
 use Rattle.std.proofs.lemmas.Bool.Decides.{same_from_decides, Decides-like}
 use Rattle.family.specs.declared.edges.Edge.{Edge}
 use Rattle.family.specs.Families.{Choice, still, toward, moved, walked, AllFrom}
-use Rattle.supplied.specs.Edges.{edge_of, edge_reached, LastEdge, last_edge}
+use Rattle.supplied.specs.Edges.{edge_of, LastEdge, last_edge}
 use Rattle.supplied.specs.Multiples.{cut_down, cut_below, cut_keeps, finer_multiple, finer_power, sum_multiple}
 use Rattle.supplied.specs.Ranges.{Range, Point, first_route, range_holds, range_shifted}
 use Rattle.supplied.specs.RangeHolds.{Held, decides_held}
 
 module _ (W : ℕ) where
   -- the edges of a range along the two axes
-  abbrev low : Range W → ℕ
+  abbrev pub low : Range W → ℕ
   low r = r.low
 
-  abbrev past : Range W → ℕ
+  abbrev pub past : Range W → ℕ
   past r = r.high + 1
 
-  abbrev begin : Range W → ℕ
+  abbrev pub begin : Range W → ℕ
   begin r = r.address
 
-  abbrev end : Range W → ℕ
+  abbrev pub end : Range W → ℕ
   end r = r.address + 2 ^ (W - r.length)
-
-  -- a point at length 0 goes to the chosen length
-  length-reached : (p : Point W) (c : Choice (Range W)) → p.length ≡ 0 → edge_of low past c ≤ W → (moved (range_shifted W) p 1 c).length ≡ edge_of low past c
-  length-reached p still z h = z
-  length-reached p (toward e r) z h = edge_reached low past (W + 1) e r p.length (omega arith)
 
   length_leaves_zero : (p : Point W) (c : Choice (Range W)) → p.address ≡ 0 → (moved (range_shifted W) p 1 c).address ≡ 0
   length_leaves_zero p still z = z
   length_leaves_zero p (toward e r) z = omega arith
-
-  -- a point at address 0 goes to the chosen address, cut to its length
-  address-reached : (p : Point W) (c : Choice (Range W)) → p.address ≡ 0 → edge_of begin end c < 2 ^ W → (moved (range_shifted W) p 2 c).address ≡ cut_down (2 ^ (W - p.length)) (edge_of begin end c)
-  address-reached p still z h = omega arith
-  address-reached p (toward e r) z h =
-      ap (cut_down (2 ^ (W - p.length))) (edge_reached begin end (2 ^ W) e r p.address h)
 
   address_leaves_length : (p : Point W) (c : Choice (Range W)) → (moved (range_shifted W) p 2 c).length ≡ p.length
   address_leaves_length p still = refl
   address_leaves_length p (toward e r) = refl
 
   pub elsewhere : (p : Point W) (axis : ℕ) (e : Edge) (r : Range W) → (axis ≢ 1) → (axis ≢ 2) → range_shifted W p axis e r ≡ p
-  elsewhere p axis e r a b = rw (ne_eqb axis 1 a, ne_eqb axis 2 b) refl
+  elsewhere p axis e r a b =
+      let one = ne_eqb axis 1 a in
+      let two = ne_eqb axis 2 b in
+      cc
 
   pub other_axis : (p : Point W) (axis : ℕ) (e : Edge) (r : Range W) → (axis ≡ 0) ⊎ ((2 < axis) ⊎ (◌≡◌ {A = ℕ} 2 5)) → range_shifted W p axis e r ≡ p
   other_axis p axis e r h = elsewhere p axis e r (λ x. omega arith) (λ x. omega arith)
@@ -108,20 +100,22 @@ module _ (W : ℕ) where
   abbrev walk : Choice (Range W) → Choice (Range W) → Point W
   walk c d = walked (range_shifted W) (first_route W) 1 (c ∷ d ∷ [])
 
-  walk_at_edges : (rs : List (Range W)) (p : Point W) (c d : Choice (Range W)) → LastEdge low past p.length rs c → LastEdge begin end p.address rs d → AtEdges rs p (walk c d) c d
-  walk_at_edges rs p c d kc kd =
-      let q = moved (range_shifted W) (first_route W) 1 c in
-      let n = length-reached (first_route W) c refl (omega (arith, kc.not_above, p.width)) in
-      record {
-        along_length_lem = kc;
-        along_address_lem = kd;
-        length = address_leaves_length q d ∙ n;
-        address = address-reached q d (length_leaves_zero (first_route W) c refl) (omega (arith, kd.not_above, p.bound))
-            ∙ ap (λ (k : ℕ). cut_down (2 ^ (W - k)) (edge_of begin end d)) n;
-      }
+  -- where a point at 0 goes to the chosen edge along each axis
+  module _ (length-reached : (p : Point W) (c : Choice (Range W)) → p.length ≡ 0 → edge_of low past c ≤ W → (moved (range_shifted W) p 1 c).length ≡ edge_of low past c) (address-reached : (p : Point W) (c : Choice (Range W)) → p.address ≡ 0 → edge_of begin end c < 2 ^ W → (moved (range_shifted W) p 2 c).address ≡ cut_down (2 ^ (W - p.length)) (edge_of begin end c)) where
+    walk_at_edges : (rs : List (Range W)) (p : Point W) (c d : Choice (Range W)) → LastEdge low past p.length rs c → LastEdge begin end p.address rs d → AtEdges rs p (walk c d) c d
+    walk_at_edges rs p c d kc kd =
+        let q = moved (range_shifted W) (first_route W) 1 c in
+        let n = length-reached (first_route W) c refl (omega (arith, kc.not_above, p.width)) in
+        record {
+          along_length_lem = kc;
+          along_address_lem = kd;
+          length = address_leaves_length q d ∙ n;
+          address = address-reached q d (length_leaves_zero (first_route W) c refl) (omega (arith, kd.not_above, p.bound))
+              ∙ ap (λ (k : ℕ). cut_down (2 ^ (W - k)) (edge_of begin end d)) n;
+        }
 
-  pub reached : (p : Point W) (rs : List (Range W)) → (cs : List (Choice (Range W))) × (length cs ≡ 2) × AllFrom rs cs × ((r : Range W) → Memᴰ r rs → range_holds W r (walked (range_shifted W) (first_route W) 1 cs) ≡ range_holds W r p)
-  reached p rs =
-      let (c, kc) = last_edge low past p.length rs in
-      let (d, kd) = last_edge begin end p.address rs in
-      (c ∷ d ∷ [], refl, (kc.named, (kd.named, tt)), same-held rs p (walk c d) c d (walk_at_edges rs p c d kc kd))
+    pub reached : (p : Point W) (rs : List (Range W)) → (cs : List (Choice (Range W))) × (length cs ≡ 2) × AllFrom rs cs × ((r : Range W) → Memᴰ r rs → range_holds W r (walked (range_shifted W) (first_route W) 1 cs) ≡ range_holds W r p)
+    reached p rs =
+        let (c, kc) = last_edge low past p.length rs in
+        let (d, kd) = last_edge begin end p.address rs in
+        (c ∷ d ∷ [], refl, (kc.named, (kd.named, tt)), same-held rs p (walk c d) c d (walk_at_edges rs p c d kc kd))

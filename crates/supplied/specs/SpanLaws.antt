@@ -84,7 +84,7 @@ module _ (TOP : ℕ) where
       omega (arith, leb-false l u (if_none (nat_le l u) (meet_span TOP a b) h), held a p ha, held b p hb)
 
   pub elsewhere : (p : SpanPoint TOP) (axis : ℕ) (e : Edge) (r : Span TOP) → (axis ≢ 1) → span_shifted TOP p axis e r ≡ p
-  elsewhere p axis e r ne = rw (ne_eqb axis 1 ne) refl
+  elsewhere p axis e r ne = let other = ne_eqb axis 1 ne in cc
 
   other_axis : (p : SpanPoint TOP) (axis : ℕ) (e : Edge) (r : Span TOP) → (axis ≡ 0) ⊎ ((1 < axis) ⊎ (◌≡◌ {A = ℕ} 1 5)) → span_shifted TOP p axis e r ≡ p
   other_axis p axis e r h = elsewhere p axis e r (λ x. omega arith)
@@ -96,10 +96,6 @@ module _ (TOP : ℕ) where
   abbrev past : Span TOP → ℕ
   past r = r.high + 1
 
-  number_reached : (p : SpanPoint TOP) (c : Choice (Span TOP)) → p.value ≡ 0 → edge_of low past c ≤ TOP → (moved (span_shifted TOP) p 1 c).value ≡ edge_of low past c
-  number_reached p still z h = z
-  number_reached p (toward e r) z h = edge_reached low past (TOP + 1) e r p.value (omega arith)
-
   same-held : (rs : List (Span TOP)) (p q : SpanPoint TOP) (c : Choice (Span TOP)) → LastEdge low past p.value rs c → q.value ≡ edge_of low past c → (r : Span TOP) → Memᴰ r rs → span_holds TOP r q ≡ span_holds TOP r p
   same-held rs p q c k e r m =
       let past-reached : p.value ≤ r.high → q.value ≤ r.high = λ h. omega (arith, k.not_above) in
@@ -107,12 +103,6 @@ module _ (TOP : ℕ) where
       (λ (ge : p.value ≤ r.high). ge) (cases_lt r.high p.value) in
       same_from_decides (span_holds TOP r q) (span_holds TOP r p) (decides_held r q)
       (Decides-like (span_holds TOP r p) (λ h. (omega (arith, k.near_passed r m h.0), past-reached h.1)) (λ h. (omega (arith, h.0, k.not_above), past-kept h.1)) (decides_held r p))
-
-  reached : (p : SpanPoint TOP) (rs : List (Span TOP)) → (cs : List (Choice (Span TOP))) × (length cs ≡ 1) × AllFrom rs cs × ((r : Span TOP) → Memᴰ r rs → span_holds TOP r (walked (span_shifted TOP) (first_number TOP) 1 cs) ≡ span_holds TOP r p)
-  reached p rs =
-      let (c, k) = last_edge low past p.value rs in
-      let q = moved (span_shifted TOP) (first_number TOP) 1 c in
-      (c ∷ [], refl, (k.named, tt), same-held rs p q c k (number_reached (first_number TOP) c refl (omega (arith, k.not_above, p.top))))
 
   pub span_laws : FamilyLaws (whole_span TOP) (first_number TOP) 1 (span_holds TOP) (span_inside TOP) (span_meet TOP) (span_shifted TOP)
   span_laws = record {
@@ -128,3 +118,13 @@ module _ (TOP : ℕ) where
     other_axis = other_axis;
     reached = λ _. reached;
   }
+    where
+      number_reached : (p : SpanPoint TOP) (c : Choice (Span TOP)) → p.value ≡ 0 → edge_of low past c ≤ TOP → (moved (span_shifted TOP) p 1 c).value ≡ edge_of low past c
+      number_reached p still z h = z
+      number_reached p (toward e r) z h = edge_reached low past (TOP + 1) e r p.value (omega arith)
+
+      reached : (p : SpanPoint TOP) (rs : List (Span TOP)) → (cs : List (Choice (Span TOP))) × (length cs ≡ 1) × AllFrom rs cs × ((r : Span TOP) → Memᴰ r rs → span_holds TOP r (walked (span_shifted TOP) (first_number TOP) 1 cs) ≡ span_holds TOP r p)
+      reached p rs =
+          let (c, k) = last_edge low past p.value rs in
+          let q = moved (span_shifted TOP) (first_number TOP) 1 c in
+          (c ∷ [], refl, (k.named, tt), same-held rs p q c k (number_reached (first_number TOP) c refl (omega (arith, k.not_above, p.top))))

@@ -1,5 +1,8 @@
 // Prefix ranges as a family: what is asked of them and of routes.
-ghost use Rattle.supplied.specs.PrefixRanges.{whole_prefix, first_of_routes, prefix_holds, prefix_inside, prefix_meet, route_shifted, prefix_laws};
+ghost use Rattle.supplied.specs.PrefixRanges.{whole_prefix, first_of_routes, prefix_holds, prefix_inside, prefix_meet, route_shifted};
+ghost use Rattle.supplied.specs.Carried.{carried_laws};
+ghost use Rattle.supplied.specs.PrefixValues.{range_values, route_values};
+ghost use Rattle.supplied.specs.RangeLaws.{range_laws};
 
 use super::PrefixRange;
 use crate::prefixes::same_prefix;
@@ -23,7 +26,7 @@ impl Family for PrefixRange {
 
     ghost shifted = { route_shifted };
 
-    ghost laws = { prefix_laws };
+    ghost laws = { carried_laws range_values route_values (range_laws 32) };
 
     fn whole_region() -> PrefixRange {
         PrefixRange {
