@@ -1,1 +1,4 @@
+pub mod PairWalks
 pub mod PrefixLaws
+pub mod RangeWalks
+pub mod SpanWalks

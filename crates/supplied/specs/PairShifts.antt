@@ -19,23 +19,23 @@ module _ {R P S Q : Type 0} (m n : ℕ) (f : P → ℕ → Edge → R → P) (g 
 
   -- where each axis is one of the parts' axes
   module _ (along_first : (p : Pair P Q) (axis : ℕ) (e : Edge) (r : Pair R S) → axis ≤ m → shifted p axis e r ≡ pair (f p.first axis e r.first) p.second) (along_second : (p : Pair P Q) (axis : ℕ) (e : Edge) (r : Pair R S) → m < axis → shifted p axis e r ≡ pair p.first (g p.second (axis - m) e r.second)) where
-    moved-first : (p : Pair P Q) (axis : ℕ) (c : Choice (Pair R S)) → axis ≤ m → moved shifted p axis c ≡ pair (moved f p.first axis (seen first_of c)) p.second
+    pub moved-first : (p : Pair P Q) (axis : ℕ) (c : Choice (Pair R S)) → axis ≤ m → moved shifted p axis c ≡ pair (moved f p.first axis (seen first_of c)) p.second
     moved-first p axis still le = refl
     moved-first p axis (toward e r) le = along_first p axis e r le
 
-    moved-second : (p : Pair P Q) (k : ℕ) (c : Choice (Pair R S)) → 0 < k → moved shifted p (m + k) c ≡ pair p.first (moved g p.second k (seen second_of c))
+    pub moved-second : (p : Pair P Q) (k : ℕ) (c : Choice (Pair R S)) → 0 < k → moved shifted p (m + k) c ≡ pair p.first (moved g p.second k (seen second_of c))
     moved-second p k still pos = refl
     moved-second p k (toward e r) pos =
         let back : m + k - m ≡ k = omega arith in
         along_second p (m + k) e r (omega arith) ∙ ap (λ (a : ℕ). pair p.first (g p.second a e r.second)) back
 
-    walked-first : (p : Pair P Q) (axis : ℕ) (cs : List (Choice (Pair R S))) → axis + length cs ≤ m + 1 → walked shifted p axis cs ≡ pair (walked f p.first axis (map (seen first_of) cs)) p.second
+    pub walked-first : (p : Pair P Q) (axis : ℕ) (cs : List (Choice (Pair R S))) → axis + length cs ≤ m + 1 → walked shifted p axis cs ≡ pair (walked f p.first axis (map (seen first_of) cs)) p.second
     walked-first p axis [] le = refl
     walked-first p axis (c ∷ cs) le =
         walked-first (moved shifted p axis c) (axis + 1) cs (omega arith)
         ∙ ap (λ (q : Pair P Q). pair (walked f q.first (axis + 1) (map (seen first_of) cs)) q.second) (moved-first p axis c (omega arith))
 
-    walked-second : (p : Pair P Q) (k : ℕ) (cs : List (Choice (Pair R S))) → 0 < k → walked shifted p (m + k) cs ≡ pair p.first (walked g p.second k (map (seen second_of) cs))
+    pub walked-second : (p : Pair P Q) (k : ℕ) (cs : List (Choice (Pair R S))) → 0 < k → walked shifted p (m + k) cs ≡ pair p.first (walked g p.second k (map (seen second_of) cs))
     walked-second p k [] pos = refl
     walked-second p k (c ∷ cs) pos =
         let next : m + k + 1 ≡ m + (k + 1) = omega arith in

@@ -43,7 +43,7 @@ module _ (W : ℕ) where
   other_axis p axis e r h = elsewhere p axis e r (λ x. omega arith) (λ x. omega arith)
 
   -- q stands at the last edges that are not above p
-  record AtEdges (rs : List (Range W)) (p q : Point W) (c d : Choice (Range W)) : Type 0 where
+  pub record AtEdges (rs : List (Range W)) (p q : Point W) (c d : Choice (Range W)) : Type 0 where
     along_length_lem : LastEdge low past p.length rs c
     along_address_lem : LastEdge begin end p.address rs d
     length : q.length ≡ edge_of low past c
@@ -97,12 +97,12 @@ module _ (W : ℕ) where
         (decides_held W r p)
 
   -- the first point after one choice for the length and one for the address
-  abbrev walk : Choice (Range W) → Choice (Range W) → Point W
+  abbrev pub walk : Choice (Range W) → Choice (Range W) → Point W
   walk c d = walked (range_shifted W) (first_route W) 1 (c ∷ d ∷ [])
 
   -- where a point at 0 goes to the chosen edge along each axis
   module _ (length-reached : (p : Point W) (c : Choice (Range W)) → p.length ≡ 0 → edge_of low past c ≤ W → (moved (range_shifted W) p 1 c).length ≡ edge_of low past c) (address-reached : (p : Point W) (c : Choice (Range W)) → p.address ≡ 0 → edge_of begin end c < 2 ^ W → (moved (range_shifted W) p 2 c).address ≡ cut_down (2 ^ (W - p.length)) (edge_of begin end c)) where
-    walk_at_edges : (rs : List (Range W)) (p : Point W) (c d : Choice (Range W)) → LastEdge low past p.length rs c → LastEdge begin end p.address rs d → AtEdges rs p (walk c d) c d
+    pub walk_at_edges : (rs : List (Range W)) (p : Point W) (c d : Choice (Range W)) → LastEdge low past p.length rs c → LastEdge begin end p.address rs d → AtEdges rs p (walk c d) c d
     walk_at_edges rs p c d kc kd =
         let q = moved (range_shifted W) (first_route W) 1 c in
         let n = length-reached (first_route W) c refl (omega (arith, kc.not_above, p.width)) in

@@ -90,10 +90,10 @@ module _ (TOP : ℕ) where
   other_axis p axis e r h = elsewhere p axis e r (λ x. omega arith)
 
   -- the edges of a span
-  abbrev low : Span TOP → ℕ
+  abbrev pub low : Span TOP → ℕ
   low r = r.low
 
-  abbrev past : Span TOP → ℕ
+  abbrev pub past : Span TOP → ℕ
   past r = r.high + 1
 
   same-held : (rs : List (Span TOP)) (p q : SpanPoint TOP) (c : Choice (Span TOP)) → LastEdge low past p.value rs c → q.value ≡ edge_of low past c → (r : Span TOP) → Memᴰ r rs → span_holds TOP r q ≡ span_holds TOP r p
