@@ -5,6 +5,7 @@ use crate::packets::draw_span;
 use crate::trials::{Compared, NOTHING, ROW, Tally, answer_of, check_answer, trials};
 use family::{Clause, Family};
 use filter::Draft;
+use std::process::Abort;
 use std::test::*;
 use supplied::{Pair, PrefixRange, Route, RouteAction, RouteWithOrigin, SpanPoint};
 
@@ -84,6 +85,7 @@ impl DrawnRegion for RouteWithOrigin {
 
 impl Compared<RouteAction> for RouteWithOrigin {
     fn check_pair(
+        rt: &impl Abort,
         left: &Drawn<RouteWithOrigin, RouteAction>,
         right: &Drawn<RouteWithOrigin, RouteAction>,
         tally: &mut Tally,
@@ -105,7 +107,9 @@ impl Compared<RouteAction> for RouteWithOrigin {
             &mut holes,
         );
         let done = left_done & right_done;
-        check_answer(left, right, done, answer, &regions, &rows, &holes, tally)
+        check_answer(
+            rt, left, right, done, answer, &regions, &rows, &holes, tally,
+        )
     }
 }
 

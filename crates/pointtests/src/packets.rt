@@ -4,6 +4,7 @@ use crate::filters::{Drawn, append};
 use crate::trials::{Compared, NOTHING, ROW, Tally, answer_of, check_answer, trials};
 use family::{Clause, Family};
 use filter::Draft;
+use std::process::Abort;
 use std::test::*;
 use supplied::{Packet, Pair, Span, SpanPoint, Verdict};
 
@@ -68,6 +69,7 @@ impl DrawnRegion for Packet {
 
 impl Compared<Verdict> for Packet {
     fn check_pair(
+        rt: &impl Abort,
         left: &Drawn<Packet, Verdict>,
         right: &Drawn<Packet, Verdict>,
         tally: &mut Tally,
@@ -89,7 +91,9 @@ impl Compared<Verdict> for Packet {
             &mut holes,
         );
         let done = left_done & right_done;
-        check_answer(left, right, done, answer, &regions, &rows, &holes, tally)
+        check_answer(
+            rt, left, right, done, answer, &regions, &rows, &holes, tally,
+        )
     }
 }
 

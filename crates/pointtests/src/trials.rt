@@ -35,6 +35,7 @@ pub const ROW: Row = Row {
 pub trait Compared<A: ActionKind>: DrawnRegion {
     // Puts the two filters into drafts, seals them, compares them, and checks what is written.
     fn check_pair(
+        rt: &impl Abort,
         left: &Drawn<Self, A>,
         right: &Drawn<Self, A>,
         tally: &mut Tally,
@@ -54,6 +55,7 @@ pub fn answer_of<R: Family, A: ActionKind>(
 
 // Whether the point is treated unlike: then it lies in one row, which names the two places that decide it, and else in none.
 fn check_point<R: Family, A: ActionKind>(
+    rt: &impl Abort,
     left: &Drawn<R, A>,
     right: &Drawn<R, A>,
     listing: &Listing<R>,
@@ -64,7 +66,7 @@ fn check_point<R: Family, A: ActionKind>(
     let unlike = !left_action.is_alike(right_action);
     let (holding, naming) = rows_of(listing, left_place, right_place, point);
     let wanted = usize::from(unlike);
-    assert!(
+    assert!(rt;
         holding == wanted && naming == wanted,
         "the rows that hold a point"
     );
@@ -73,6 +75,7 @@ fn check_point<R: Family, A: ActionKind>(
 
 // Every point of the grid is checked; answers whether one is treated unlike.
 fn check_grid<R: DrawnRegion, A: ActionKind>(
+    rt: &impl Abort,
     left: &Drawn<R, A>,
     right: &Drawn<R, A>,
     listing: &Listing<R>,
@@ -80,7 +83,7 @@ fn check_grid<R: DrawnRegion, A: ActionKind>(
     let mut unlike = false;
     for number in 0..R::grid_len() {
         if let Some(point) = R::grid_point(number) {
-            unlike |= check_point(left, right, listing, point)?;
+            unlike |= check_point(rt, left, right, listing, point)?;
         }
     }
     Ok(unlike)
@@ -88,27 +91,29 @@ fn check_grid<R: DrawnRegion, A: ActionKind>(
 
 // What a comparison wrote is what the two filters say, point by point.
 fn check_listing<R: DrawnRegion, A: ActionKind>(
+    rt: &impl Abort,
     left: &Drawn<R, A>,
     right: &Drawn<R, A>,
     listing: &Listing<R>,
     tally: &mut Tally,
 ) -> Result<(), Fail> {
     let rows = listing.rows.len();
-    let unlike = check_grid(left, right, listing)?;
+    let unlike = check_grid(rt, left, right, listing)?;
     tally.compared = tally.compared.saturating_add(1);
     tally.alike = tally.alike.saturating_add(usize::from(!unlike));
     tally.rows = tally.rows.saturating_add(rows);
-    assert!((rows > 0) == unlike, "rows, but no unlike point");
-    assert!(
+    assert!(rt; (rows > 0) == unlike, "rows, but no unlike point");
+    assert!(rt;
         are_in_order(listing.rows, listing.holes.len()),
         "rows or holes out of order"
     );
-    assert!(are_met(listing), "a row without a point");
+    assert!(rt; are_met(listing), "a row without a point");
     Ok(())
 }
 
 // Checks that the edits were done, and a comparison that is not declined.
 pub fn check_answer<'x, R: DrawnRegion, A: ActionKind>(
+    rt: &impl Abort,
     left: &Drawn<R, A>,
     right: &Drawn<R, A>,
     done: bool,
@@ -118,7 +123,7 @@ pub fn check_answer<'x, R: DrawnRegion, A: ActionKind>(
     holes: &'x [usize],
     tally: &mut Tally,
 ) -> Result<(), Fail> {
-    assert!(done, "an edit was refused");
+    assert!(rt; done, "an edit was refused");
     let Ok(report) = answer else {
         return Ok(());
     };
@@ -127,7 +132,7 @@ pub fn check_answer<'x, R: DrawnRegion, A: ActionKind>(
         rows: front(rows, report.rows),
         holes: front(holes, report.holes),
     };
-    check_listing(left, right, &listing, tally)
+    check_listing(rt, left, right, &listing, tally)
 }
 
 // A pair is drawn and checked.
@@ -152,7 +157,7 @@ fn trial<R: Compared<A>, A: DrawnAction>(
         clauses: front(right, right_count),
         default: right_default,
     };
-    R::check_pair(&left_filter, &right_filter, tally)
+    R::check_pair(rt, &left_filter, &right_filter, tally)
 }
 
 // So many trials, each with its seed; the clauses are drawn to the places lent.
@@ -164,7 +169,7 @@ pub fn trials<R: Compared<A>, A: DrawnAction>(
     tally: &mut Tally,
 ) -> Result<(), Fail> {
     for seed in 0..seeds {
-        trial(rt, seed, left, right, tally).note(format_args!("seed {seed}"))?;
+        trial(rt, seed, left, right, tally)?;
     }
     Ok(())
 }
