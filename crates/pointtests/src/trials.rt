@@ -8,15 +8,17 @@ use filter::Sealed;
 use std::process::Abort;
 use std::test::*;
 
-// The pairs compared, those of them without a row, and the rows checked.
+// The seed of the pair that is being checked; the pairs compared, those of them without a row, and the rows checked.
 #[derive(Drop)]
 pub struct Tally {
+    pub seed: u64,
     pub compared: usize,
     pub alike: usize,
     pub rows: usize,
 }
 
 pub const NOTHING: Tally = Tally {
+    seed: 0,
     compared: 0,
     alike: 0,
     rows: 0,
@@ -60,6 +62,7 @@ fn check_point<R: Family, A: ActionKind>(
     right: &Drawn<R, A>,
     listing: &Listing<R>,
     point: R::Point,
+    seed: u64,
 ) -> Result<bool, Fail> {
     let (left_place, left_action) = decide(left, point);
     let (right_place, right_action) = decide(right, point);
@@ -68,7 +71,7 @@ fn check_point<R: Family, A: ActionKind>(
     let wanted = usize::from(unlike);
     assert!(rt;
         holding == wanted && naming == wanted,
-        "the rows that hold a point"
+        "the rows that hold a point, seed {seed}"
     );
     Ok(unlike)
 }
@@ -79,11 +82,12 @@ fn check_grid<R: DrawnRegion, A: ActionKind>(
     left: &Drawn<R, A>,
     right: &Drawn<R, A>,
     listing: &Listing<R>,
+    seed: u64,
 ) -> Result<bool, Fail> {
     let mut unlike = false;
     for number in 0..R::grid_len() {
         if let Some(point) = R::grid_point(number) {
-            unlike |= check_point(rt, left, right, listing, point)?;
+            unlike |= check_point(rt, left, right, listing, point, seed)?;
         }
     }
     Ok(unlike)
@@ -98,16 +102,20 @@ fn check_listing<R: DrawnRegion, A: ActionKind>(
     tally: &mut Tally,
 ) -> Result<(), Fail> {
     let rows = listing.rows.len();
-    let unlike = check_grid(rt, left, right, listing)?;
+    let seed = tally.seed;
+    let unlike = check_grid(rt, left, right, listing, seed)?;
     tally.compared = tally.compared.saturating_add(1);
     tally.alike = tally.alike.saturating_add(usize::from(!unlike));
     tally.rows = tally.rows.saturating_add(rows);
-    assert!(rt; (rows > 0) == unlike, "rows, but no unlike point");
+    assert!(rt;
+        (rows > 0) == unlike,
+        "rows, but no unlike point, seed {seed}"
+    );
     assert!(rt;
         are_in_order(listing.rows, listing.holes.len()),
-        "rows or holes out of order"
+        "rows or holes out of order, seed {seed}"
     );
-    assert!(rt; are_met(listing), "a row without a point");
+    assert!(rt; are_met(listing), "a row without a point, seed {seed}");
     Ok(())
 }
 
@@ -123,7 +131,8 @@ pub fn check_answer<'x, R: DrawnRegion, A: ActionKind>(
     holes: &'x [usize],
     tally: &mut Tally,
 ) -> Result<(), Fail> {
-    assert!(rt; done, "an edit was refused");
+    let seed = tally.seed;
+    assert!(rt; done, "an edit was refused, seed {seed}");
     let Ok(report) = answer else {
         return Ok(());
     };
@@ -143,6 +152,7 @@ fn trial<R: Compared<A>, A: DrawnAction>(
     right: &mut [Clause<R, A>],
     tally: &mut Tally,
 ) -> Result<(), Fail> {
+    tally.seed = seed;
     let mut draws = Draws::new(seed);
     draw_clauses(&mut draws, left)?;
     let left_count = draw_count(&mut draws);
