@@ -2,7 +2,7 @@
 use Rattle.std.proofs.Common.{◌≡◌, ℕ, ◌<◌, Bool, true, false, List, [], ◌∷◌, length, Some, None, fold, Option, sym, refl, ap, ◌∙◌, subst, inl, inr, arith}
 use mathlib.Core.List.Memᴰ
 use mathlib.Core.List.{Memᴰ}
-use Rattle.std.specs.List.{AllByRecursion as All}
+use Rattle.std.specs.List.{AllByRecursion}
 use Rattle.std.proofs.lemmas.Bool.{cond-true, cond-false}
 use Rattle.family.specs.declared.clauses.Clause.{Clause}
 use Rattle.family.specs.declared.edges.Edge.{Edge}
@@ -66,7 +66,7 @@ module _ {R P A : Type 0} (whole : R) (first : P) (axes : ℕ) (holds : R → P 
       let parts = row_parts whole first axes holds inside shifted alike xs left left-default right right-default n row e in
       subst Standing parts.2 (record { region_listed = h; unlike = parts.0; held = parts.1; left_place = refl; right_place = refl })
 
-  pub found_standing : All Standing found
+  pub found_standing : AllByRecursion Standing found
   found_standing = found_all whole first axes holds inside shifted alike xs left left-default right right-default Standing row_standing
 
   pub found-listed : (n : ℕ) → n < length xs → alike_here (region_at whole xs n) ≡ false → occupied_here n ≡ true → Memᴰ (row_here n (region_at whole xs n)) found

@@ -1,13 +1,13 @@
 -- Lists in which each element stands in order before all that follow it.
 use Rattle.std.proofs.Common.{◌≡◌, ℕ, zero, suc, ◌<◌, Bool, true, false, cond, List, [], ◌∷◌, Some, filter, subst, arith}
-use Rattle.std.specs.List.{AllByRecursion as All, slice_get}
+use Rattle.std.specs.List.{AllByRecursion, slice_get}
 use Rattle.std.proofs.ByRecursion.{all_kept_by}
 use Rattle.compare.proofs.Members.{nothing, all_member, nth_member}
 
 module _ {X : Type 0} (Order : X → X → Type 0) where
   abbrev pub InOrder : List X → Type 0
   InOrder [] = Unit {0}
-  InOrder (x ∷ xs) = All (Order x) xs × InOrder xs
+  InOrder (x ∷ xs) = AllByRecursion (Order x) xs × InOrder xs
 
   -- by places
   pub nth_in_order : (xs : List X) (j k : ℕ) (a b : X) → InOrder xs → j < k → slice_get xs j ≡ Some a → slice_get xs k ≡ Some b → Order a b

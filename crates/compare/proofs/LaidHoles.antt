@@ -1,6 +1,6 @@
 -- Rows laid out by place: each row reads its region's holes from those of all rows.
 use Rattle.std.proofs.Common.{◌≡◌, ℕ, zero, suc, ◌+◌, ◌≤◌, Bool, List, [], ◌∷◌, ◌++◌, length, take, drop, Some, fold, sum_by, sym, refl, ap, ◌∙◌, subst, append_assoc, arith, length-append}
-use Rattle.std.specs.List.{AllByRecursion as All, slice_get}
+use Rattle.std.specs.List.{AllByRecursion, slice_get}
 use Rattle.std.proofs.lemmas.List.{take_at, drop_at}
 use Rattle.std.proofs.lemmas.List.Sums.{sum_by-cons}
 use Rattle.compare.specs.declared.rows.Row.{Row}
@@ -44,7 +44,7 @@ module _ {R : Type 0} (inside : R → R → Bool) (whole : R) (xs : List R) wher
   first-holes so_far more row counted =
       ap (λ l. take row.number (drop (length so_far) l)) (append_assoc so_far (own row) more) ∙ ap (take row.number) (drop_at so_far (own row ++ more) (length so_far) refl) ∙ take_at (own row) more row.number (sym counted)
 
-  holes_after : (so_far : List ℕ) (rows : List Row) (start k : ℕ) (row : Row) → All (Counted inside whole xs) rows → start ≡ length so_far → slice_get (laid start rows) k ≡ Some row → read_holes (fold (add_holes inside whole xs) so_far rows) row ≡ own row
+  holes_after : (so_far : List ℕ) (rows : List Row) (start k : ℕ) (row : Row) → AllByRecursion (Counted inside whole xs) rows → start ≡ length so_far → slice_get (laid start rows) k ≡ Some row → read_holes (fold (add_holes inside whole xs) so_far rows) row ≡ own row
   holes_after so_far [] start k row all e is = nothing is
   holes_after so_far (x ∷ rows) start zero row all e is =
       let same : started start x ≡ row = cc in
@@ -55,5 +55,5 @@ module _ {R : Type 0} (inside : R → R → Bool) (whole : R) (xs : List R) wher
       holes_after (so_far ++ own x) rows (start + x.number) k row all.1 (omega (arith, e, all.0, length-append so_far (own x))) is
 
   -- a row's holes, read from where it says, are its region's
-  pub holes-read : (rows : List Row) (k : ℕ) (row : Row) → All (Counted inside whole xs) rows → slice_get (laid 0 rows) k ≡ Some row → read_holes (holes_of_rows inside whole xs rows) row ≡ own row
+  pub holes-read : (rows : List Row) (k : ℕ) (row : Row) → AllByRecursion (Counted inside whole xs) rows → slice_get (laid 0 rows) k ≡ Some row → read_holes (holes_of_rows inside whole xs rows) row ≡ own row
   holes-read rows k row all is = holes_after [] rows 0 k row all refl is

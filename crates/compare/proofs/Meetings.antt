@@ -2,7 +2,7 @@
 use Rattle.std.proofs.Common.{◌≡◌, ℕ, zero, suc, ◌<◌, ◌≤◌, Bool, true, false, ◌&&◌, List, [], ◌∷◌, ◌++◌, map, length, Some, Option, sym, refl, ap, ◌∙◌, subst, inl, inr}
 use mathlib.Core.List.Memᴰ
 use mathlib.Core.List.{Memᴰ}
-use Rattle.std.specs.List.{AllByRecursion as All}
+use Rattle.std.specs.List.{AllByRecursion}
 use Rattle.std.proofs.ByRecursion.{All-append, All-weaker}
 use Rattle.std.proofs.lemmas.Bool.{and_parts}
 use Rattle.family.specs.Families.{FamilyLaws}
@@ -41,7 +41,7 @@ module _ {R P : Type 0} {whole : R} {first : P} {axes : ℕ} {holds : R → P �
   module _ (given : List R) where
     -- a meet of given regions, of none the whole region
     abbrev Met : R → Type 0
-    Met r = (parts : List R) × All (λ part. Memᴰ part given) parts × IsMeet holds parts r
+    Met r = (parts : List R) × AllByRecursion (λ part. Memᴰ part given) parts × IsMeet holds parts r
 
     met_whole : Met whole
     met_whole = ([], tt, laws.everything)
@@ -56,7 +56,7 @@ module _ {R P : Type 0} {whole : R} {first : P} {axes : ℕ} {holds : R → P �
     met_belongs : (r : R) → Met r → Belongs holds whole given r
     met_belongs r a = by a.0 a.1 a.2
       where
-        by : (parts : List R) → All (λ part. Memᴰ part given) parts → IsMeet holds parts r → Belongs holds whole given r
+        by : (parts : List R) → AllByRecursion (λ part. Memᴰ part given) parts → IsMeet holds parts r → Belongs holds whole given r
         by [] within is = inl (laws.same_points r whole (λ p. is p ∙ sym (laws.everything p)))
         by (one ∷ others) within is = inr (one, others, within, is)
 
@@ -66,7 +66,7 @@ module _ {R P : Type 0} {whole : R} {first : P} {axes : ℕ} {holds : R → P �
 
     -- in a closed list, a meet with a point is listed
     module _ (xs : List R) (closed : Closed laws xs) (first-listed : Memᴰ whole xs) (given-listed : (r : R) → Memᴰ r given → Memᴰ r xs) where
-      meet-listed : (parts : List R) → All (λ part. Memᴰ part given) parts → (p : P) → held_by_all holds parts p ≡ true → (r : R) × Memᴰ r xs × IsMeet holds parts r
+      meet-listed : (parts : List R) → AllByRecursion (λ part. Memᴰ part given) parts → (p : P) → held_by_all holds parts p ≡ true → (r : R) × Memᴰ r xs × IsMeet holds parts r
       meet-listed [] within p t = (whole, first-listed, laws.everything)
       meet-listed (c ∷ cs) within p t =
           let both = and_parts (holds c p) (held_by_all holds cs p) t in
@@ -128,7 +128,7 @@ module _ {R P : Type 0} {whole : R} {first : P} {axes : ℕ} {holds : R → P �
     pub list-once : Once xs
     list-once = all-met.0
 
-    pub list_belongs : All (Belongs holds whole given) xs
+    pub list_belongs : AllByRecursion (Belongs holds whole given) xs
     list_belongs = All-weaker (Met given) (Belongs holds whole given) (met_belongs given) xs all-met.1
 
     -- more regions than places

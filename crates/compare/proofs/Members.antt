@@ -2,7 +2,7 @@
 use Rattle.std.proofs.Common.{◌≡◌, ℕ, zero, suc, ◌+◌, ◌<◌, ◌≤◌, Bool, true, false, cond, ◌||◌, ◌⊎◌, List, [], ◌∷◌, ◌++◌, length, get_or, take, Some, None, filter, sym, refl, ap, ◌∙◌, inl, inr, arith}
 use mathlib.Core.List.Memᴰ
 use mathlib.Core.List.{Memᴰ}
-use Rattle.std.specs.List.{AllByRecursion as All, slice_get}
+use Rattle.std.specs.List.{AllByRecursion, slice_get}
 use Rattle.std.proofs.lemmas.Bool.{or_left, or_right, or_cases, or_parts, cases_eq, false≢true}
 use Rattle.family.specs.Lists.{any_of}
 use Rattle.compare.specs.Cells.{numbers}
@@ -13,11 +13,11 @@ nothing {X} {B} {x} e = let z : ◌≡◌ {A = ℕ} 0 1 = cc in absurd (omega ar
 
 module _ {X : Type 0} where
   -- what all have, a member has
-  pub all_member : (Q : X → Type 0) (x : X) (xs : List X) → All Q xs → Memᴰ x xs → Q x
+  pub all_member : (Q : X → Type 0) (x : X) (xs : List X) → AllByRecursion Q xs → Memᴰ x xs → Q x
   all_member Q x [] all m = absurd (Memᴰ.not-nil m)
   all_member Q x (y ∷ ys) all m = elim (Memᴰ.cases_cons m) [ inl e ↦ rw e all.0 | inr n ↦ all_member Q x ys all.1 n ]
 
-  pub all_by_member : (Q : X → Type 0) (xs : List X) → ((x : X) → Memᴰ x xs → Q x) → All Q xs
+  pub all_by_member : (Q : X → Type 0) (xs : List X) → ((x : X) → Memᴰ x xs → Q x) → AllByRecursion Q xs
   all_by_member Q [] each = tt
   all_by_member Q (y ∷ ys) each = (each y (Memᴰ.head refl), all_by_member Q ys (λ x m. each x (Memᴰ.tail m)))
 

@@ -2,7 +2,7 @@
 use Rattle.std.proofs.Common.{◌≡◌, ℕ, zero, suc, Bool, true, false, cond, ◌⊎◌, List, [], ◌∷◌, ◌++◌, length, Some, None, fold, Option, sym, refl, ap, ◌∙◌, subst, inl, inr}
 use mathlib.Core.List.Memᴰ
 use mathlib.Core.List.{Memᴰ}
-use Rattle.std.specs.List.{AllByRecursion as All, slice_get}
+use Rattle.std.specs.List.{AllByRecursion, slice_get}
 use Rattle.std.proofs.ByRecursion.{All-push}
 use Rattle.std.proofs.lemmas.Bool.{both_ways}
 use Rattle.family.specs.Families.{FamilyLaws}
@@ -51,7 +51,7 @@ module _ {X : Type 0} where
 module _ {R P : Type 0} {whole : R} {first : P} {axes : ℕ} {holds : R → P → Bool} {inside : R → R → Bool} {meet : R → R → Option R} {shifted : P → ℕ → Edge → R → P} (laws : FamilyLaws whole first axes holds inside meet shifted) where
   -- a list of regions that have a property, each once
   abbrev pub Sound : (R → Type 0) → List R → Type 0
-  Sound Q xs = Once xs × All Q xs
+  Sound Q xs = Once xs × AllByRecursion Q xs
 
   pub put-lists : (xs : List R) (r : R) → Memᴰ r (put inside xs r)
   put-lists xs r = by (stands inside r xs) refl

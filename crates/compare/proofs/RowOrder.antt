@@ -2,7 +2,7 @@
 use Rattle.std.proofs.Common.{◌≡◌, ℕ, suc, ◌<◌, ◌≤◌, Bool, true, false, cond, ◌&&◌, eqb, ltb, ◌⊎◌, List, [], ◌∷◌, take, drop, Some, None, fold, Option, sym, refl, ◌∙◌, subst, inl, inr, arith, take-append-drop}
 use mathlib.Core.List.Memᴰ
 use mathlib.Core.List.{Memᴰ}
-use Rattle.std.specs.List.{insert, AllByRecursion as All}
+use Rattle.std.specs.List.{insert, AllByRecursion}
 use Rattle.std.proofs.ByRecursion.{All-weaker}
 use Rattle.std.proofs.lemmas.Bool.{ltb-true, ltb-false, eqb-true, eqb-false, or_cases, or_parts, and_parts, and_cases, cases_lt}
 use Rattle.family.specs.Lists.{first_where}
@@ -55,7 +55,7 @@ behind_before a b f low =
           inr (same, elim (cases_lt a.right b.right) [ inl k ↦ inl k | inr k ↦ inr (omega arith, low) ]))
     ]
 
-ranked_sorted : (rows : List Row) (row : Row) → InOrder Before rows → All (λ x. x.region < row.region) rows → InOrder Before (ranked rows row)
+ranked_sorted : (rows : List Row) (row : Row) → InOrder Before rows → AllByRecursion (λ x. x.region < row.region) rows → InOrder Before (ranked rows row)
 ranked_sorted [] row s low = (tt, tt)
 ranked_sorted (x ∷ xs) row s low = by (precedes row x) refl (ranked_sorted xs row s.1 low.1)
   where
@@ -67,11 +67,11 @@ ranked_sorted (x ∷ xs) row s low = by (precedes row x) refl (ranked_sorted xs 
 
 -- rows of rising numbers, each put in its place
 module _ (row_of : ℕ → Option Row) (own : (n : ℕ) (row : Row) → row_of n ≡ Some row → row.region ≡ n) where
-  some_sorted : (n : ℕ) (rows : List Row) (o : Option Row) → ((row : Row) → o ≡ Some row → row.region ≡ n) → InOrder Before rows → All (λ x. x.region < n) rows → InOrder Before (ranked_some rows o)
+  some_sorted : (n : ℕ) (rows : List Row) (o : Option Row) → ((row : Row) → o ≡ Some row → row.region ≡ n) → InOrder Before rows → AllByRecursion (λ x. x.region < n) rows → InOrder Before (ranked_some rows o)
   some_sorted n rows None is s low = s
   some_sorted n rows (Some row) is s low = ranked_sorted rows row s (All-weaker (λ x. x.region < n) (λ x. x.region < row.region) (λ x h. omega (arith, is row refl)) rows low)
 
-  pub rising_sorted : {X : Type 0} (i : ℕ) (xs : List X) (rows : List Row) → InOrder Before rows → All (λ x. x.region < i) rows → InOrder Before (fold (λ so_far n. ranked_some so_far (row_of n)) rows (numbers i xs))
+  pub rising_sorted : {X : Type 0} (i : ℕ) (xs : List X) (rows : List Row) → InOrder Before rows → AllByRecursion (λ x. x.region < i) rows → InOrder Before (fold (λ so_far n. ranked_some so_far (row_of n)) rows (numbers i xs))
   rising_sorted i [] rows s low = s
   rising_sorted i (x ∷ xs) rows s low =
       rising_sorted (suc i) xs (ranked_some rows (row_of i)) (some_sorted i rows (row_of i) (own i) s low)

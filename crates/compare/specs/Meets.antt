@@ -1,7 +1,7 @@
 -- What a region list is to hold: the whole region and the meets of clauses' regions, each once.
 use Rattle.std.specs.Prelude.{◌≡◌, ℕ, ◌<◌, Bool, true, ◌&&◌, ◌⊎◌, List, [], ◌∷◌, ◌++◌, map, length, Some}
 use mathlib.Core.List.{Memᴰ}
-use Rattle.std.specs.List.{AllByRecursion as All, slice_get}
+use Rattle.std.specs.List.{AllByRecursion, slice_get}
 use Rattle.family.specs.declared.clauses.Clause.{Clause}
 
 -- nothing stands at two places of a list
@@ -25,7 +25,7 @@ module _ {R P : Type 0} (holds : R → P → Bool) where
   module _ (whole : R) (given : List R) where
     -- a region that the list is to hold: the whole region, or a meet of one or more of the given ones
     abbrev pub Belongs : R → Type 0
-    Belongs r = (r ≡ whole) ⊎ ((one : R) × (others : List R) × All (λ part. Memᴰ part given) (one ∷ others) × IsMeet (one ∷ others) r)
+    Belongs r = (r ≡ whole) ⊎ ((one : R) × (others : List R) × AllByRecursion (λ part. Memᴰ part given) (one ∷ others) × IsMeet (one ∷ others) r)
 
     -- a list of nothing but these, all of them, each once
     pub record Listed (regions : List R) : Type 0 where
@@ -35,4 +35,4 @@ module _ {R P : Type 0} (holds : R → P → Bool) where
 
     -- there are more than so many of them
     abbrev pub Outnumber : ℕ → Type 0
-    Outnumber places = (many : List R) × (places < length many) × Once many × All Belongs many
+    Outnumber places = (many : List R) × (places < length many) × Once many × AllByRecursion Belongs many

@@ -8,7 +8,7 @@ use filter::Sealed;
 use std::process::Abort;
 use std::test::*;
 
-// The seed of the pair that is being checked; the pairs compared, those of them without a row, and the rows checked.
+// The pair that is being checked, by what it is drawn from; the pairs compared, those without a row, and the rows checked.
 #[derive(Drop)]
 pub struct Tally {
     pub seed: u64,
