@@ -3,10 +3,11 @@ use Rattle.std.proofs.Common.{◌≡◌, ℕ, ◌<◌, ◌≤◌, min, List, len
 use Rattle.std.proofs.lemmas.List.{length-take}
 use Rattle.buffers.specs.Buffers.{written}
 use Rattle.family.specs.declared.clauses.Clause.{Clause}
+use Rattle.fields.specs.Fields.{Octets}
 use Rattle.fields.specs.Reading.{Read}
 use Rattle.filterfile.specs.declared.writing.WriteError.{WriteError}
 use Rattle.filterfile.specs.Files.{usable_places, file_of}
-use Rattle.filterfile.specs.WrittenFiles.{answer_in, write_answer, written_file, file_bytes, ReadBack}
+use Rattle.filterfile.specs.WrittenFiles.{answer_in, write_answer, written_file, file_bytes, ReadBack, WrittenBack}
 use Rattle.filterfile.proofs.Answered.{answered-few, written-few}
 use Rattle.filter.specs.Views.{View, view_of, clauses_in, file_of_view}
 
@@ -38,3 +39,8 @@ module _ {R A : Type 0} (region_bytes : R → List ℕ) (action_bytes : A → Li
       ap (file_of region_of action_of code memory) (sym same-file)
       ∙ back memory small (subst (λ l. length l < memory) (sym clauses-are) room)
       ∙ ap (λ l. Ok (l, default)) clauses-are ∙ ap (λ a. Ok (shown.clauses, a)) default-is
+
+  pub file-kept : WrittenBack region_bytes action_bytes region_of action_of code clauses default → (memory : ℕ) (bytes : List ℕ) → Octets bytes → file_of region_of action_of code memory bytes ≡ Ok (shown.clauses, shown.default) → bytes ≡ file_of_view region_bytes action_bytes code shown
+  file-kept kept memory bytes all read =
+      let same : Ok (clauses, default) ≡ Ok (shown.clauses, shown.default) = ap (λ l. Ok (l, default)) clauses-are ∙ ap (λ a. Ok (shown.clauses, a)) default-is in
+      kept memory bytes all (read ∙ sym same) ∙ same-file

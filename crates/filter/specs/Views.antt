@@ -49,8 +49,3 @@ load_answer (Err fault) = Err fault
 -- the file of a filter, as it is written
 abbrev pub file_of_view : {R A : Type 0} → (R → List ℕ) → (A → List ℕ) → ℕ → View R A → List ℕ
 file_of_view region_bytes action_bytes code v = file_bytes region_bytes action_bytes code v.clauses v.default
-
--- what is loaded is written back as the same bytes
-abbrev pub LoadedBack : {R A : Type 0} → (R → List ℕ) → (A → List ℕ) → ℕ → List ℕ → Result (Unit {0}) Fault → View R A → Type 0
-LoadedBack region_bytes action_bytes code bytes (Ok done) v = bytes ≡ file_of_view region_bytes action_bytes code v
-LoadedBack region_bytes action_bytes code bytes (Err fault) v = Unit {0}

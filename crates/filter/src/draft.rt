@@ -1,7 +1,7 @@
 // A draft: a filter that is edited. Sealing it moves it.
 ghost use Rattle.std.specs.Prelude.{◌≡◌, length, slice_set};
 ghost use Rattle.filterfile.specs.Files.{file_of};
-ghost use Rattle.filter.specs.Views.{empty_view, with_default, loaded_view, loaded_places, load_answer, LoadedBack};
+ghost use Rattle.filter.specs.Views.{empty_view, with_default, loaded_view, loaded_places, load_answer};
 ghost use Rattle.filter.specs.Ledger.{if_done, insert_answer, after_insert, place_answer, after_remove, after_replace, default_answer, after_default, inserted_places, removed_places};
 ghost use Rattle.filter.specs.States.{draft_view, sealed_view};
 
@@ -88,7 +88,6 @@ impl<'a, R: Recorded, A: RecordedAction> Draft<'a, R, A> {
         ensures view { draft_view A.ActionKind.reject self.new ≡ loaded_view (draft_view A.ActionKind.reject self.old) (file_of R.Recorded.reads A.RecordedAction.reads code (length self.old.table.places.now) bytes.now) }
         ensures memory { self.new.table.places.now ≡ loaded_places R.Family.whole self.old.table.places.now (file_of R.Recorded.reads A.RecordedAction.reads code (length self.old.table.places.now) bytes.now) }
         ensures lender { self.new.table.places.ghost_name ≡ self.old.table.places.ghost_name }
-        ensures back { LoadedBack R.Recorded.writes A.RecordedAction.writes code bytes.now result (draft_view A.ActionKind.reject self.new) }
     {
         self.table.load(code, bytes)
     }

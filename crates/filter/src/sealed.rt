@@ -1,8 +1,9 @@
 // A sealed filter: it is matched, compared and written, and takes no edit.
-ghost use Rattle.std.specs.Prelude.{◌≡◌, ℕ, ◌<◌, length, Ok};
+ghost use Rattle.std.specs.Prelude.{◌≡◌, ℕ, ◌<◌, List, length, Ok};
 ghost use Rattle.buffers.specs.Buffers.{written};
 ghost use Rattle.family.specs.Clauses.{action_at};
 ghost use Rattle.family.specs.Lists.{first_where};
+ghost use Rattle.fields.specs.Fields.{Octets};
 ghost use Rattle.filterfile.specs.Files.{file_of};
 ghost use Rattle.filterfile.specs.WrittenFiles.{answer_in};
 ghost use Rattle.filter.specs.Ledger.{holding, match_of, FirstHolding};
@@ -12,7 +13,7 @@ ghost use Rattle.filter.specs.Views.{file_of_view};
 use crate::table::Table;
 use family::{ActionKind, Clause, Family};
 use filterfile::{WriteError, write_file};
-use records::{Recorded, RecordedAction};
+use records::{Written, WrittenAction};
 
 #[derive(Drop)]
 pub struct Sealed<'a, R, A> {
@@ -52,13 +53,14 @@ impl<'a, R: Family, A: ActionKind> Sealed<'a, R, A> {
     }
 }
 
-impl<'a, R: Recorded, A: RecordedAction> Sealed<'a, R, A> {
+impl<'a, R: Written, A: WrittenAction> Sealed<'a, R, A> {
     // Writes the filter as a file of the given family code to the front of the buffer: answers the file's length.
     // A buffer that is too short is left as it was.
     pub fn write(&self, code: u8, out: &mut [u8]) -> Result<usize, WriteError>
-        ensures answer { result ≡ answer_in out.old (file_of_view R.Recorded.writes A.RecordedAction.writes code (sealed_view A.ActionKind.reject self.now)) }
-        ensures bytes { out.new ≡ written out.old (file_of_view R.Recorded.writes A.RecordedAction.writes code (sealed_view A.ActionKind.reject self.now)) }
-        ensures back { (memory : ℕ) → length (sealed_view A.ActionKind.reject self.now).clauses < memory → file_of R.Recorded.reads A.RecordedAction.reads code memory (file_of_view R.Recorded.writes A.RecordedAction.writes code (sealed_view A.ActionKind.reject self.now)) ≡ Ok ((sealed_view A.ActionKind.reject self.now).clauses, (sealed_view A.ActionKind.reject self.now).default) }
+        ensures answer { result ≡ answer_in out.old (file_of_view R.Written.writes A.WrittenAction.writes code (sealed_view A.ActionKind.reject self.now)) }
+        ensures bytes { out.new ≡ written out.old (file_of_view R.Written.writes A.WrittenAction.writes code (sealed_view A.ActionKind.reject self.now)) }
+        ensures back { (memory : ℕ) → length (sealed_view A.ActionKind.reject self.now).clauses < memory → file_of R.Recorded.reads A.RecordedAction.reads code memory (file_of_view R.Written.writes A.WrittenAction.writes code (sealed_view A.ActionKind.reject self.now)) ≡ Ok ((sealed_view A.ActionKind.reject self.now).clauses, (sealed_view A.ActionKind.reject self.now).default) }
+        ensures kept { (memory : ℕ) (bytes : List ℕ) → Octets bytes → file_of R.Recorded.reads A.RecordedAction.reads code memory bytes ≡ Ok ((sealed_view A.ActionKind.reject self.now).clauses, (sealed_view A.ActionKind.reject self.now).default) → bytes ≡ file_of_view R.Written.writes A.WrittenAction.writes code (sealed_view A.ActionKind.reject self.now) }
     {
         write_file(code, self.table.clauses(), self.table.default(), out)
     }

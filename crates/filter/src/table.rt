@@ -2,7 +2,7 @@
 ghost use Rattle.std.specs.Prelude.{◌≡◌, ◌-◌, min, length, slice_set};
 ghost use Rattle.filterfile.specs.Files.{usable_places, file_of};
 ghost use Rattle.filter.specs.Ledger.{if_done, insert_answer, after_insert, place_answer, after_remove, after_replace, default_answer, after_default, inserted_places, removed_places};
-ghost use Rattle.filter.specs.Views.{View, view_of, clauses_in, default_in, empty_view, with_default, loaded_view, loaded_places, load_answer, LoadedBack};
+ghost use Rattle.filter.specs.Views.{View, view_of, clauses_in, default_in, empty_view, with_default, loaded_view, loaded_places, load_answer};
 
 use crate::errors::EditError;
 use crate::places::{insert_at, last_or, put_last, remove_at, replace_at};
@@ -133,7 +133,6 @@ impl<'a, R: Recorded, A: RecordedAction> Table<'a, R, A> {
         ensures view { view_of A.ActionKind.reject self.new.places.now self.new.count ≡ loaded_view (view_of A.ActionKind.reject self.old.places.now self.old.count) (file_of R.Recorded.reads A.RecordedAction.reads code (length self.old.places.now) bytes.now) }
         ensures memory { self.new.places.now ≡ loaded_places R.Family.whole self.old.places.now (file_of R.Recorded.reads A.RecordedAction.reads code (length self.old.places.now) bytes.now) }
         ensures lender { self.new.places.ghost_name ≡ self.old.places.ghost_name }
-        ensures back { LoadedBack R.Recorded.writes A.RecordedAction.writes code bytes.now result (view_of A.ActionKind.reject self.new.places.now self.new.count) }
     {
         let (count, default) = match read_file(code, bytes, self.places) {
             Ok(read) => read,

@@ -11,12 +11,7 @@ use Rattle.fields.proofs.NumberBytes.{octets_behind}
 use Rattle.filterfile.specs.AcceptedFiles.{Laid, none, next, Accepted, Rightly}
 use Rattle.filterfile.specs.Files.{file_of, answer_of, places_after}
 use Rattle.filterfile.specs.WrittenFiles.{clause_bytes, file_bytes, WrittenBack, ReadBack, ClausesFit}
-use Rattle.filterfile.proofs.Accepting.{read_if_accepted, settled}
-
--- numbers of which each is known to be a byte
-pub octets-from : (bytes : List ℕ) → ((i : ℕ) → get_or bytes i 0 < 256) → Octets bytes
-octets-from [] each = tt
-octets-from (b ∷ bytes) each = (each 0, octets-from bytes (λ i. each (suc i)))
+use Rattle.filterfile.proofs.Accepting.{read_if_accepted, accepted_if_read}
 
 module _ {R A : Type 0} {RegionFits : R → Type 0} {ActionFits : A → Type 0} {region_of : List ℕ → Read R} {action_of : List ℕ → Read A} {region_bytes : R → List ℕ} {action_bytes : A → List ℕ} (region : RecordLaws RegionFits region_of region_bytes) (action : RecordLaws ActionFits action_of action_bytes) where
   laid-back : (clauses : List (Clause R A)) → ClausesFit RegionFits ActionFits clauses → (last : List ℕ) → Laid region_of action_of (flat_map (clause_bytes region_bytes action_bytes) clauses ++ last) clauses last
@@ -61,12 +56,6 @@ module _ {R A : Type 0} {RegionFits : R → Type 0} {ActionFits : A → Type 0} 
       let last = action.written_back file.last body.1 default [] file.default ∙ append-nil (action_bytes default) in
       file.head ∙ ap (λ l. code ∷ length clauses ∷ l) (body.0 ∙ ap (λ l. flat_map (clause_bytes region_bytes action_bytes) clauses ++ l) last)
 
-  pub file-kept : (code memory : ℕ) (bytes : List ℕ) (r : Result (ℕ × A) Fault) (places : List (Clause R A)) → Octets bytes → Rightly region_of action_of code memory bytes r places → WrittenBack region_bytes action_bytes code bytes r places
-  file-kept code memory bytes (Ok p) places all right = accepted_kept code memory bytes (take p.0 places) p.1 all right
-  file-kept code memory bytes (Err fault) places all right = tt
-
-  -- what reading a file promises, from its answer and the places after it
-  pub settled_back : (code memory : ℕ) (bytes : List ℕ) → Octets bytes → (r : Result (ℕ × A) Fault) (entry filled : List (Clause R A)) → r ≡ answer_of (file_of region_of action_of code memory bytes) → filled ≡ places_after entry (file_of region_of action_of code memory bytes) → record { answer : r ≡ answer_of (file_of region_of action_of code memory bytes); places : filled ≡ places_after entry (file_of region_of action_of code memory bytes); file : Rightly region_of action_of code memory bytes r filled; back : WrittenBack region_bytes action_bytes code bytes r filled }
-  settled_back code memory bytes all r entry filled answer after =
-      let told = settled region_of action_of code memory bytes r entry filled answer after in
-      record { answer = told.answer; places = told.places; file = told.file; back = file-kept code memory bytes r filled all told.file }
+  pub file-kept : (code : ℕ) (clauses : List (Clause R A)) (default : A) → WrittenBack region_bytes action_bytes region_of action_of code clauses default
+  file-kept code clauses default memory bytes all read =
+      accepted_kept code memory bytes clauses default all (accepted_if_read region_of action_of code memory bytes clauses default read)

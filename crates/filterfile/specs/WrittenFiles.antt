@@ -1,9 +1,9 @@
 -- A whole file as it is written, and that writing and reading a file undo each other.
-use Rattle.std.specs.Prelude.{◌≡◌, ℕ, ◌<◌, ◌≤◌, cond, List, [], ◌∷◌, ◌++◌, length, take, Ok, Err, Result, nat_le, nat_lt}
+use Rattle.std.specs.Prelude.{◌≡◌, ℕ, ◌<◌, ◌≤◌, cond, List, [], ◌∷◌, ◌++◌, length, Ok, Err, Result, nat_le, nat_lt}
 use Rattle.std.specs.List.{flat_map}
 use Rattle.buffers.specs.Buffers.{written}
 use Rattle.family.specs.declared.clauses.Clause.{Clause}
-use Rattle.fields.specs.declared.faults.Fault.{Fault}
+use Rattle.fields.specs.Fields.{Octets}
 use Rattle.fields.specs.Reading.{Read}
 use Rattle.filterfile.specs.declared.writing.WriteError.{WriteError}
 use Rattle.filterfile.specs.declared.writing.WriteError.TheVariants.{CountAboveLimit, BufferTooShort}
@@ -33,10 +33,10 @@ module _ {R A : Type 0} (region_bytes : R → List ℕ) (action_bytes : A → Li
   file_bytes code clauses default =
       (code ∷ []) ++ (length clauses ∷ []) ++ flat_map clause_bytes clauses ++ action_bytes default
 
-  -- what a file was read as is written as the same bytes
-  abbrev pub WrittenBack : ℕ → List ℕ → Result (ℕ × A) Fault → List (Clause R A) → Type 0
-  WrittenBack code bytes (Ok p) places = bytes ≡ file_bytes code (take p.0 places) p.1
-  WrittenBack code bytes (Err fault) places = Unit {0}
+  -- all bytes that are read as these clauses and this default are those that are written of them
+  abbrev pub WrittenBack : (List ℕ → Read R) → (List ℕ → Read A) → ℕ → List (Clause R A) → A → Type 0
+  WrittenBack region_of action_of code clauses default =
+      (memory : ℕ) (bytes : List ℕ) → Octets bytes → file_of region_of action_of code memory bytes ≡ Ok (clauses, default) → bytes ≡ file_bytes code clauses default
 
   -- what is written is read as the same clauses and default, wherever there are places enough
   abbrev pub ReadBack : (List ℕ → Read R) → (List ℕ → Read A) → ℕ → List (Clause R A) → A → Type 0

@@ -1,7 +1,6 @@
 // A whole file read into lent clause memory: first checked, then filled in.
 ghost use Rattle.std.specs.Prelude.{◌≡◌, ℕ, ◌≤◌, List, ◌++◌, length, drop, Ok};
 ghost use Rattle.filterfile.specs.AcceptedFiles.{Rightly};
-ghost use Rattle.filterfile.specs.WrittenFiles.{WrittenBack};
 ghost use Rattle.filterfile.specs.Files.{head_of, usable_places, clause_of, clauses_of, behind_of, default_of, file_of, answer_of, places_after};
 ghost use Rattle.fields.specs.Reading.{seen, seen_rest};
 
@@ -111,7 +110,6 @@ pub fn read_file<R: Recorded, A: RecordedAction>(
     ensures answer { result ≡ answer_of (file_of R.Recorded.reads A.RecordedAction.reads code (length places.old) bytes.now) }
     ensures places { places.new ≡ places_after places.old (file_of R.Recorded.reads A.RecordedAction.reads code (length places.old) bytes.now) }
     ensures file { Rightly R.Recorded.reads A.RecordedAction.reads code (length places.old) bytes.now result places.new }
-    ensures back { WrittenBack R.Recorded.writes A.RecordedAction.writes code bytes.now result places.new }
 {
     let total = bytes.len();
     let (count, body) = match read_head(code, places.len(), bytes) {

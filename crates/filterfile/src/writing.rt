@@ -2,11 +2,11 @@
 ghost use Rattle.std.specs.Prelude.{◌≡◌, ◌≤◌, length};
 ghost use Rattle.std.specs.List.{flat_map};
 ghost use Rattle.buffers.specs.Buffers.{Placed};
-ghost use Rattle.filterfile.specs.WrittenFiles.{number_of, write_answer, written_file, clause_bytes, file_bytes, ReadBack, ClausesFit};
+ghost use Rattle.filterfile.specs.WrittenFiles.{number_of, write_answer, written_file, clause_bytes, file_bytes, ReadBack, WrittenBack, ClausesFit};
 
 use buffers::put_byte;
 use family::Clause;
-use records::{Recorded, RecordedAction};
+use records::{Written, WrittenAction};
 
 // Why a file is not written.
 #[derive(Clone, Copy, PartialEq, Eq, Debug)]
@@ -29,13 +29,13 @@ impl WriteError {
 }
 
 // Puts the records of the clauses one behind the other.
-fn put_clauses<R: Recorded, A: RecordedAction>(
+fn put_clauses<R: Written, A: WrittenAction>(
     out: &mut [u8],
     at: usize,
     clauses: &[Clause<R, A>],
 ) -> usize
-    ensures bytes { Placed out.old at (flat_map (clause_bytes R.Recorded.writes A.RecordedAction.writes) clauses.now) result out.new }
-    ensures numbers { ClausesFit R.Recorded.fits A.RecordedAction.fits clauses.now }
+    ensures bytes { Placed out.old at (flat_map (clause_bytes R.Written.writes A.WrittenAction.writes) clauses.now) result out.new }
+    ensures numbers { ClausesFit R.Written.fits A.WrittenAction.fits clauses.now }
 {
     let mut end = at;
     for clause in clauses {
@@ -46,16 +46,16 @@ fn put_clauses<R: Recorded, A: RecordedAction>(
 }
 
 // Puts a file of at most 64 clauses to the front of the buffer.
-fn put_file<R: Recorded, A: RecordedAction>(
+fn put_file<R: Written, A: WrittenAction>(
     out: &mut [u8],
     code: u8,
     clauses: &[Clause<R, A>],
     default: A,
 ) -> usize
     requires { length clauses.now ≤ 64 }
-    ensures bytes { Placed out.old 0 (file_bytes R.Recorded.writes A.RecordedAction.writes code clauses.now default) result out.new }
-    ensures numbers { ClausesFit R.Recorded.fits A.RecordedAction.fits clauses.now }
-    ensures default { A.RecordedAction.fits default }
+    ensures bytes { Placed out.old 0 (file_bytes R.Written.writes A.WrittenAction.writes code clauses.now default) result out.new }
+    ensures numbers { ClausesFit R.Written.fits A.WrittenAction.fits clauses.now }
+    ensures default { A.WrittenAction.fits default }
 {
     let at = put_byte(out, 0, code);
     let at = put_byte(out, at, clauses.len() as u8);
@@ -65,15 +65,16 @@ fn put_file<R: Recorded, A: RecordedAction>(
 
 // Writes the file of these clauses and this default, of the family of this code, to the front of the buffer:
 // answers its length. A refusal leaves the buffer as it was.
-pub fn write_file<R: Recorded, A: RecordedAction>(
+pub fn write_file<R: Written, A: WrittenAction>(
     code: u8,
     clauses: &[Clause<R, A>],
     default: A,
     out: &mut [u8],
 ) -> Result<usize, WriteError>
-    ensures answer { result ≡ write_answer (length clauses.now) out.old (file_bytes R.Recorded.writes A.RecordedAction.writes code clauses.now default) }
-    ensures bytes { out.new ≡ written_file (length clauses.now) out.old (file_bytes R.Recorded.writes A.RecordedAction.writes code clauses.now default) }
-    ensures back { ReadBack R.Recorded.writes A.RecordedAction.writes R.Recorded.reads A.RecordedAction.reads code clauses.now default }
+    ensures answer { result ≡ write_answer (length clauses.now) out.old (file_bytes R.Written.writes A.WrittenAction.writes code clauses.now default) }
+    ensures bytes { out.new ≡ written_file (length clauses.now) out.old (file_bytes R.Written.writes A.WrittenAction.writes code clauses.now default) }
+    ensures back { ReadBack R.Written.writes A.WrittenAction.writes R.Recorded.reads A.RecordedAction.reads code clauses.now default }
+    ensures kept { WrittenBack R.Written.writes A.WrittenAction.writes R.Recorded.reads A.RecordedAction.reads code clauses.now default }
 {
     if clauses.len() > 64 {
         return Err(WriteError::CountAboveLimit);

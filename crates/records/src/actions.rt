@@ -8,7 +8,7 @@ ghost use Rattle.fields.specs.Reading.{outcome_of, rest_of};
 ghost use Rattle.fields.specs.Sizes.{TookBytes};
 ghost use Rattle.records.specs.Sizes.{action_size};
 
-use crate::recorded::RecordedAction;
+use crate::recorded::{RecordedAction, WrittenAction};
 use buffers::put_byte;
 use fields::{Layout, RecordFault, put_u32, read_record, read_u32};
 use supplied::{MakeError, RouteAction};
@@ -92,12 +92,6 @@ fn put_number(out: &mut [u8], at: usize, number: Option<u32>) -> usize
 impl RecordedAction for RouteAction {
     ghost reads = { record_of action_layout };
 
-    ghost writes = { action_bytes };
-
-    ghost fits = { ActionFits };
-
-    ghost undoing = { action_undoing };
-
     fn read(bytes: &[u8]) -> (Result<RouteAction, RecordFault>, &[u8])
         ensures outcome { result.0 ≡ outcome_of (record_of action_layout bytes.now) }
         ensures rest { result.1.now ≡ rest_of bytes.now (record_of action_layout bytes.now) }
@@ -105,6 +99,14 @@ impl RecordedAction for RouteAction {
     {
         read_record::<ActionNumbers>(bytes)
     }
+}
+
+impl WrittenAction for RouteAction {
+    ghost writes = { action_bytes };
+
+    ghost fits = { ActionFits };
+
+    ghost undoing = { action_undoing };
 
     fn write(self, out: &mut [u8], at: usize) -> usize {
         match self {

@@ -8,4 +8,5 @@ mod recorded;
 mod spans;
 mod verdicts;
 
-pub use recorded::{Recorded, RecordedAction};
+pub use fields::{Fault, FaultKind, Part, RecordFault};
+pub use recorded::{Recorded, RecordedAction, Written, WrittenAction};

@@ -1,18 +1,12 @@
 // The record of a pair: its two regions, each with its own map.
 ghost use Rattle.records.specs.PairRecords.{pair_reads, pair_bytes, PairFits, pair_undoing};
 
-use crate::recorded::Recorded;
+use crate::recorded::{Recorded, Written};
 use fields::RecordFault;
 use supplied::Pair;
 
 impl<F: Recorded, G: Recorded> Recorded for Pair<F, G> {
     ghost reads = { pair_reads F.Recorded.reads G.Recorded.reads };
-
-    ghost writes = { pair_bytes F.Recorded.writes G.Recorded.writes };
-
-    ghost fits = { PairFits F.Recorded.fits G.Recorded.fits };
-
-    ghost undoing = { pair_undoing F.Recorded.undoing G.Recorded.undoing };
 
     fn read(bytes: &[u8]) -> (Result<Pair<F, G>, RecordFault>, &[u8]) {
         let (first, rest) = F::read(bytes);
@@ -26,6 +20,14 @@ impl<F: Recorded, G: Recorded> Recorded for Pair<F, G> {
             Err(fault) => (Err(fault), bytes),
         }
     }
+}
+
+impl<F: Written, G: Written> Written for Pair<F, G> {
+    ghost writes = { pair_bytes F.Written.writes G.Written.writes };
+
+    ghost fits = { PairFits F.Written.fits G.Written.fits };
+
+    ghost undoing = { pair_undoing F.Written.undoing G.Written.undoing };
 
     fn write(self, out: &mut [u8], at: usize) -> usize {
         let at = self.first.write(out, at);

@@ -8,7 +8,7 @@ ghost use Rattle.fields.specs.Reading.{outcome_of, rest_of, held_in};
 ghost use Rattle.fields.specs.Sizes.{TookBytes};
 ghost use Rattle.records.specs.Sizes.{range_size};
 
-use crate::recorded::Recorded;
+use crate::recorded::{Recorded, Written};
 use buffers::put_byte;
 use fields::{
     Layout, RecordFault, given_bit, given_u8, given_u32, put_given_u8, put_given_u32, read_record,
@@ -102,12 +102,6 @@ fn map_of(range: PrefixRange) -> u8
 impl Recorded for PrefixRange {
     ghost reads = { record_of range_layout };
 
-    ghost writes = { range_bytes };
-
-    ghost fits = { λ r. Unit {0} };
-
-    ghost undoing = { range_undoing };
-
     fn read(bytes: &[u8]) -> (Result<PrefixRange, RecordFault>, &[u8])
         ensures outcome { result.0 ≡ outcome_of (record_of range_layout bytes.now) }
         ensures rest { result.1.now ≡ rest_of bytes.now (record_of range_layout bytes.now) }
@@ -116,6 +110,14 @@ impl Recorded for PrefixRange {
     {
         read_record::<RangeNumbers>(bytes)
     }
+}
+
+impl Written for PrefixRange {
+    ghost writes = { range_bytes };
+
+    ghost fits = { λ r. Unit {0} };
+
+    ghost undoing = { range_undoing };
 
     fn write(self, out: &mut [u8], at: usize) -> usize {
         let length = self.length();

@@ -11,7 +11,7 @@ ghost use Rattle.records.specs.Sizes.{span_size};
 ghost use Rattle.records.specs.SpanRecords.{span_width, span_layout, span_bytes, SpanFits};
 ghost use Rattle.records.specs.SpanUndoing.{span_undoing};
 
-use crate::recorded::Recorded;
+use crate::recorded::{Recorded, Written};
 use buffers::put_byte;
 use fields::{
     FaultKind, Layout, RecordFault, given_bit, put_u16, put_u32, read_record, read_u8, read_u16,
@@ -108,12 +108,6 @@ impl<const TOP: u32> Layout for SpanNumbers<TOP> {
 impl<const TOP: u32> Recorded for Span<TOP> {
     ghost reads = { record_of (span_layout TOP) };
 
-    ghost writes = { span_bytes TOP };
-
-    ghost fits = { SpanFits TOP };
-
-    ghost undoing = { span_undoing TOP };
-
     fn read(bytes: &[u8]) -> (Result<Span<TOP>, RecordFault>, &[u8])
         ensures outcome { result.0 ≡ outcome_of (record_of (span_layout TOP) bytes.now) }
         ensures rest { result.1.now ≡ rest_of bytes.now (record_of (span_layout TOP) bytes.now) }
@@ -122,6 +116,14 @@ impl<const TOP: u32> Recorded for Span<TOP> {
     {
         read_record::<SpanNumbers<TOP>>(bytes)
     }
+}
+
+impl<const TOP: u32> Written for Span<TOP> {
+    ghost writes = { span_bytes TOP };
+
+    ghost fits = { SpanFits TOP };
+
+    ghost undoing = { span_undoing TOP };
 
     fn write(self, out: &mut [u8], at: usize) -> usize {
         let low = self.low();

@@ -6,7 +6,7 @@ ghost use Rattle.fields.specs.Sizes.{TookBytes};
 ghost use Rattle.records.specs.Sizes.{action_size};
 ghost use Rattle.records.specs.VerdictRecords.{verdict_layout, verdict_bytes, verdict_undoing};
 
-use crate::recorded::RecordedAction;
+use crate::recorded::{RecordedAction, WrittenAction};
 use buffers::put_byte;
 use fields::{Layout, RecordFault, read_record};
 use supplied::{MakeError, Verdict};
@@ -48,12 +48,6 @@ impl Layout for VerdictNumbers {
 impl RecordedAction for Verdict {
     ghost reads = { record_of verdict_layout };
 
-    ghost writes = { verdict_bytes };
-
-    ghost fits = { λ v. Unit {0} };
-
-    ghost undoing = { verdict_undoing };
-
     fn read(bytes: &[u8]) -> (Result<Verdict, RecordFault>, &[u8])
         ensures outcome { result.0 ≡ outcome_of (record_of verdict_layout bytes.now) }
         ensures rest { result.1.now ≡ rest_of bytes.now (record_of verdict_layout bytes.now) }
@@ -61,6 +55,14 @@ impl RecordedAction for Verdict {
     {
         read_record::<VerdictNumbers>(bytes)
     }
+}
+
+impl WrittenAction for Verdict {
+    ghost writes = { verdict_bytes };
+
+    ghost fits = { λ v. Unit {0} };
+
+    ghost undoing = { verdict_undoing };
 
     fn write(self, out: &mut [u8], at: usize) -> usize {
         match self {

@@ -3,7 +3,7 @@ use crate::writing::{blank, is_written, sample};
 use family::Clause;
 use fields::{Fault, Part};
 use filter::Draft;
-use records::{Recorded, RecordedAction};
+use records::{Written, WrittenAction};
 use std::process::Abort;
 use std::test::Fail;
 use supplied::{Packet, PrefixRange, RouteAction, RouteWithOrigin, Verdict};
@@ -70,7 +70,7 @@ fn tells(rt: &impl Abort, answer: Result<(), Fault>, told: Told) -> Result<(), F
 }
 
 // A draft that holds the sample refuses the file, and holds the sample still.
-fn keeps<R: Recorded, A: RecordedAction>(
+fn keeps<R: Written, A: WrittenAction>(
     rt: &impl Abort,
     places: &mut [Clause<R, A>],
     code: u8,
@@ -140,7 +140,7 @@ fn files_cut_short(rt: HostRuntime) -> Result<(), Fail> {
 }
 
 // An empty draft refuses the file and stays empty.
-fn stays_empty<R: Recorded, A: RecordedAction>(
+fn stays_empty<R: Written, A: WrittenAction>(
     rt: &impl Abort,
     places: &mut [Clause<R, A>],
     code: u8,

@@ -2,7 +2,7 @@
 use family::{ActionKind, Clause, Family};
 use filter::{Draft, Sealed};
 use filterfile::write_file;
-use records::{Recorded, RecordedAction};
+use records::{Written, WrittenAction};
 use std::process::Abort;
 use std::test::Fail;
 use supplied::{
@@ -26,7 +26,7 @@ pub fn sample(code: u8) -> &'static [u8] {
 }
 
 // The filter is written as this file, and no byte behind it is touched.
-pub fn is_written<R: Recorded, A: RecordedAction>(
+pub fn is_written<R: Written, A: WrittenAction>(
     rt: &impl Abort,
     filter: &Sealed<R, A>,
     code: u8,
@@ -47,7 +47,7 @@ pub fn is_written<R: Recorded, A: RecordedAction>(
 }
 
 // A buffer that is a byte shorter than the file is refused and left as it was.
-fn is_too_long<R: Recorded, A: RecordedAction>(
+fn is_too_long<R: Written, A: WrittenAction>(
     rt: &impl Abort,
     filter: &Sealed<R, A>,
     code: u8,
@@ -66,7 +66,7 @@ fn is_too_long<R: Recorded, A: RecordedAction>(
 }
 
 // The file is written into this buffer and fills it.
-fn fills<R: Recorded, A: RecordedAction>(
+fn fills<R: Written, A: WrittenAction>(
     rt: &impl Abort,
     filter: &Sealed<R, A>,
     code: u8,
@@ -79,7 +79,7 @@ fn fills<R: Recorded, A: RecordedAction>(
 }
 
 // A buffer of the file's length takes it.
-fn just_fits<R: Recorded, A: RecordedAction>(
+fn just_fits<R: Written, A: WrittenAction>(
     rt: &impl Abort,
     filter: &Sealed<R, A>,
     code: u8,
@@ -91,7 +91,7 @@ fn just_fits<R: Recorded, A: RecordedAction>(
 }
 
 // The same regions and actions, clause by clause, and the same default.
-fn are_alike<R: Recorded, A: RecordedAction>(a: &Sealed<R, A>, b: &Sealed<R, A>) -> bool {
+fn are_alike<R: Written, A: WrittenAction>(a: &Sealed<R, A>, b: &Sealed<R, A>) -> bool {
     let left = a.clauses();
     let right = b.clauses();
     if left.len() != right.len() || !a.default().is_alike(b.default()) {
@@ -118,7 +118,7 @@ pub fn blank<R: Family, A: ActionKind>() -> Clause<R, A> {
 }
 
 // Written and loaded into other places, it is the same filter.
-fn is_loaded_again<R: Recorded, A: RecordedAction>(
+fn is_loaded_again<R: Written, A: WrittenAction>(
     rt: &impl Abort,
     filter: &Sealed<R, A>,
     code: u8,
@@ -136,7 +136,7 @@ fn is_loaded_again<R: Recorded, A: RecordedAction>(
 }
 
 // Loaded, sealed and written, it is the same file.
-fn comes_back<R: Recorded, A: RecordedAction>(
+fn comes_back<R: Written, A: WrittenAction>(
     rt: &impl Abort,
     code: u8,
     file: &[u8],
@@ -236,7 +236,7 @@ fn ends_at_each_other_s_absent_value_come_back(rt: HostRuntime) -> Result<(), Fa
 }
 
 // The region that was made is written as this record.
-fn is_record<R: Recorded>(
+fn is_record<R: Written>(
     rt: &impl Abort,
     made: Result<R, MakeError>,
     record: &[u8],

@@ -1,17 +1,17 @@
 use Rattle.std.proofs.Common.{length, Ok, sym, ap, ◌∙◌, rules}
 use Rattle.filterfile.specs.Files.{answer_of, places_after}
-use Rattle.filterfile.proofs.Undoing.{octets-from, settled_back}
+use Rattle.filterfile.proofs.Accepting.{settled}
 use Rattle.fields.proofs.Seen.{seen_read, seen-rest}
 use Rattle.filterfile.proofs.WholeFiles.{whole_file}
 use Rattle.filterfile.proofs.files.read_file.Goals as goal
 
 pub returns-in_err-rest : goal.returns-in_err-rest
 returns-in_err-rest g c =
-    settled_back g.R.Recorded.undoing g.A.RecordedAction.undoing c.args.code (length c.args.places.now) c.args.bytes.now (octets-from c.args.bytes.now (λ i. (c.type_inv.bytes i).fits)) _ c.args.places.now _ (search rules) (search rules)
+    settled g.R.Recorded.reads g.A.RecordedAction.reads c.args.code (length c.args.places.now) c.args.bytes.now _ c.args.places.now _ (search rules) (search rules)
 
 pub returns-in_err-default : goal.returns-in_err-default
 returns-in_err-default g c =
-    settled_back g.R.Recorded.undoing g.A.RecordedAction.undoing c.args.code (length c.args.places.now) c.args.bytes.now (octets-from c.args.bytes.now (λ i. (c.type_inv.bytes i).fits)) _ c.args.places.now _ (search rules) (search rules)
+    settled g.R.Recorded.reads g.A.RecordedAction.reads c.args.code (length c.args.places.now) c.args.bytes.now _ c.args.places.now _ (search rules) (search rules)
 
 pub returns : goal.returns
 returns g c =
@@ -19,6 +19,6 @@ returns g c =
     let clauses = seen-rest {r = c.check_clauses.result} c.check_clauses.ensures c.in_ok-rest.was in
     let last = sym c.read_default.ensures ∙ c.in_ok-default.was in
     let whole = whole_file g.R.Recorded.reads g.A.RecordedAction.reads c.args.code (length c.args.places.now) c.args.bytes.now _ _ _ _ head clauses last in
-    settled_back g.R.Recorded.undoing g.A.RecordedAction.undoing c.args.code (length c.args.places.now) c.args.bytes.now (octets-from c.args.bytes.now (λ i. (c.type_inv.bytes i).fits)) _ c.args.places.now _
+    settled g.R.Recorded.reads g.A.RecordedAction.reads c.args.code (length c.args.places.now) c.args.bytes.now _ c.args.places.now _
     (ap (λ n. Ok (n, c.in_ok-default.default)) (sym whole.size) ∙ ap answer_of (sym whole.file))
     (c.fill_clauses.ensures _ whole.clauses _ whole.read ∙ ap (places_after c.args.places.now) (sym whole.file))

@@ -7,5 +7,5 @@ use Rattle.filterfile.proofs.writing.put_clauses.Given as goal
 -- the clauses so far are written, and their numbers fit
 abbrev pub invariant-loop-clause : goal.invariant-loop-clause
 invariant-loop-clause g l =
-    Placed l.initial.out l.initial.end (flat_map (clause_bytes g.R.Recorded.writes g.A.RecordedAction.writes) (take l.clause-index l.clauses)) l.end l.out
-    × ClausesFit g.R.Recorded.fits g.A.RecordedAction.fits (take l.clause-index l.clauses)
+    Placed l.initial.out l.initial.end (flat_map (clause_bytes g.R.Written.writes g.A.WrittenAction.writes) (take l.clause-index l.clauses)) l.end l.out
+    × ClausesFit g.R.Written.fits g.A.WrittenAction.fits (take l.clause-index l.clauses)

@@ -1,8 +1,6 @@
-use Rattle.std.proofs.Common.{◌≡◌, ◌-◌, length, take, set, sym, refl, ap, ◌∙◌}
-use Rattle.std.proofs.lemmas.List.{take_at}
+use Rattle.std.proofs.Common.{◌≡◌, ◌-◌, length, set, sym, refl, ap, ◌∙◌}
 use Rattle.filterfile.specs.Files.{file_of, places_after}
-use Rattle.filterfile.specs.WrittenFiles.{file_bytes}
-use Rattle.filter.specs.Views.{view_of, with_default, loaded_view, loaded_places, load_answer, file_of_view}
+use Rattle.filter.specs.Views.{view_of, with_default, loaded_view, loaded_places, load_answer}
 use Rattle.filter.proofs.Loaded.{file-fits, file-refused, file-read}
 use Rattle.filter.proofs.Viewed.{refilled}
 use Rattle.filter.proofs.table.Table.load.Goals as goal
@@ -20,7 +18,6 @@ returns-in-Err g c =
       view = ap (λ l. view_of reject l count) same ∙ ap (loaded_view (view_of reject places count)) (sym refused);
       memory = same ∙ ap (loaded_places g.R.Family.whole places) (sym refused);
       lender = refl;
-      back = tt;
     }
 
 pub returns : goal.returns
@@ -37,15 +34,9 @@ returns g c =
     let front = c.in-Ok.ensures.places ∙ ap (places_after places) read.1 in
     let put = c.put_last.ensures ∙ ap (set c.read_file.new.places (length c.read_file.new.places - 1)) c.default_place.ensures ∙ ap (λ l. with_default whole l action) front in
     let shown = ap (λ l. view_of reject l c.in-Ok.read.0) put ∙ ap (view_of reject _) (sym read.2) ∙ refilled whole places clauses action reject fit.0 fit.1 in
-    let file-is = file_of_view g.R.Recorded.writes g.A.RecordedAction.writes c.args.code in
-    let taken = ap (take c.in-Ok.read.0) front ∙ take_at clauses _ _ read.2 in
     record {
       answer = ap load_answer (sym read.1);
       view = shown ∙ ap (loaded_view (view_of reject places count)) (sym read.1);
       memory = put ∙ ap (loaded_places whole places) (sym read.1);
       lender = refl;
-      back =
-          c.in-Ok.ensures.back
-          ∙ ap (λ l. file_bytes g.R.Recorded.writes g.A.RecordedAction.writes c.args.code l action) taken
-          ∙ ap file-is (sym shown);
     }

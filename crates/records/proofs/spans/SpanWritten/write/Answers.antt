@@ -5,7 +5,7 @@ use Rattle.fields.specs.Fields.{given_bytes, given_bit}
 use Rattle.fields.specs.Reading.{outcome_of, held_in}
 use Rattle.records.specs.SpanRecords.{span_width}
 use Rattle.records.specs.SpanUndoing.{span_undoing}
-use Rattle.records.proofs.spans.SpanRecorded.write.Goals as goal
+use Rattle.records.proofs.spans.SpanWritten.write.Goals as goal
 
 pub returns : goal.returns
 returns g c =

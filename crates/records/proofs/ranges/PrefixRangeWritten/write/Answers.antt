@@ -4,7 +4,7 @@ use Rattle.buffers.proofs.Placing.{◌then◌, placed_same}
 use Rattle.fields.specs.Fields.{given_bytes}
 use Rattle.fields.specs.Reading.{outcome_of, held_in}
 use Rattle.records.specs.RangeUndoing.{range_undoing}
-use Rattle.records.proofs.ranges.PrefixRangeRecorded.write.Goals as goal
+use Rattle.records.proofs.ranges.PrefixRangeWritten.write.Goals as goal
 
 pub returns : goal.returns
 returns c =
