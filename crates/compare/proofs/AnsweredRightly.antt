@@ -1,15 +1,15 @@
 -- A comparison's answer is right, by the laws of its family.
-use Rattle.std.proofs.Common.{◌≡◌, ℕ, ◌<◌, ◌≤◌, Bool, cond, ltb, List, ◌++◌, length, take, drop, Ok, Err, Option, Result, sym, refl, ap, ◌∙◌, subst, inl, inr, ⊎_elim, arith, length-take}
+use Rattle.std.proofs.Common.{◌≡◌, ℕ, ◌<◌, ◌≤◌, Bool, cond, ltb, List, ◌++◌, length, take, drop, Ok, Err, Option, Result, sym, refl, ap, ◌∙◌, subst, ⊎_elim, arith, length-take}
 use Rattle.std.proofs.lemmas.List.{take-append-le, take-take, take_all}
 use Rattle.std.proofs.lemmas.Bool.{cases_lt, cond-true, cond-false, lt-ltb, le-ltb}
 use Rattle.family.specs.declared.edges.Edge.{Edge}
 use Rattle.family.specs.Families.{FamilyLaws}
 use Rattle.filter.specs.Views.{View}
 use Rattle.compare.specs.declared.reports.Declined.{Declined}
-use Rattle.compare.specs.declared.reports.Declined.TheVariants.{TooManyAxes, NoRegionPlace, NoRowPlace, NoHolePlace}
+use Rattle.compare.specs.declared.reports.Declined.TheVariants.{NoRowPlace, NoHolePlace}
 use Rattle.compare.specs.declared.reports.Report.{Report}
 use Rattle.compare.specs.declared.rows.Row.{Row}
-use Rattle.compare.specs.Answered.{Reports, HadTo, Rightly}
+use Rattle.compare.specs.Answered.{Reports, Rightly}
 use Rattle.compare.specs.Compared.{used_places, front_of, unless_declined, list_for, rows_in, holes_in, outcome, regions_after}
 use Rattle.compare.proofs.Outcomes.{too_many_axes, no_region_place, reported_on, regions_listed_lem}
 use Rattle.compare.proofs.Outnumbered.{outnumber_exactly}

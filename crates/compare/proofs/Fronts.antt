@@ -5,7 +5,7 @@ use borrow.Rule.Slice.PartMut.{put_mid, post_of}
 use Rattle.std.proofs.lemmas.Slice.{put_mid-paste}
 use Rattle.compare.specs.Written.{Written}
 use Rattle.std.proofs.lemmas.List.Sums.{fold_more}
-use Rattle.compare.proofs.Extended.{Extends, extends_length, folded_extends, folded_front}
+use Rattle.compare.proofs.Extended.{Extends, extends_length, folded_front}
 
 module _ {X : Type 0} where
   pub written_front : (old xs : List X) (n : ℕ) (new : List X) → Written old xs (Some n) new → take n new ≡ xs

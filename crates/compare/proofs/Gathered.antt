@@ -1,9 +1,9 @@
 -- The region list gathered in four steps: the whole region, the left clauses, the right clauses, the meets.
-use Rattle.std.proofs.Common.{◌≡◌, ℕ, Bool, List, [], ◌∷◌, length, take, Some, None, Option, sym, subst}
+use Rattle.std.proofs.Common.{◌≡◌, ℕ, Bool, List, [], ◌∷◌, length, take, Some, None, Option, subst}
 use Rattle.family.specs.declared.clauses.Clause.{Clause}
 use Rattle.compare.specs.Regions.{put_clauses, grown, region_list}
 use Rattle.compare.specs.Written.{Written}
-use Rattle.compare.proofs.Extended.{Extends, extends_on, put_clauses_extends, grown_extends}
+use Rattle.compare.proofs.Extended.{put_clauses_extends, grown_extends}
 use Rattle.compare.proofs.Fronts.{written_on, written-short, written-length}
 
 module _ {R A : Type 0} (inside : R → R → Bool) (meet : R → R → Option R) (whole : R) (left right : List (Clause R A)) (old : List R) where

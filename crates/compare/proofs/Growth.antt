@@ -1,5 +1,5 @@
 -- The region list to its growing end, over the places that hold it.
-use Rattle.std.proofs.Common.{◌≡◌, ℕ, zero, suc, ◌+◌, ◌<◌, ◌≤◌, Bool, List, [], ◌∷◌, length, get_or, take, drop, Some, Option, sym, refl, ap, ◌∙◌, add-one, arith, length-take}
+use Rattle.std.proofs.Common.{◌≡◌, ℕ, zero, suc, ◌+◌, ◌<◌, ◌≤◌, Bool, List, [], ◌∷◌, length, get_or, take, Some, Option, sym, refl, ap, ◌∙◌, add-one, arith, length-take}
 use Rattle.std.proofs.lemmas.List.{drop_more, drop_all, take-take, get_or-take}
 use Rattle.compare.specs.Regions.{put_meets, grown}
 use Rattle.compare.specs.Written.{Written}

@@ -1,7 +1,7 @@
 -- The region list written over the first of the region places, which are lent for it.
-use Rattle.std.proofs.Common.{◌≡◌, ℕ, ◌+◌, ◌-◌, ◌<◌, ◌≤◌, List, ◌++◌, length, take, drop, Some, None, sym, refl, ap, ◌∙◌, append_assoc, arith, length-append, length-drop, take-append-drop, length-take}
+use Rattle.std.proofs.Common.{◌≡◌, ℕ, ◌-◌, ◌<◌, ◌≤◌, List, ◌++◌, length, take, drop, Some, None, sym, ap, ◌∙◌, append_assoc, arith, take-append-drop, length-take}
 use borrow.Rule.Slice.PartMut.{post_of}
-use Rattle.std.proofs.lemmas.List.{take_all, take_at, drop-append-le, drop_at}
+use Rattle.std.proofs.lemmas.List.{take_all, take_at, drop-append-le}
 use Rattle.compare.specs.Compared.{front_of}
 use Rattle.compare.specs.Written.{Written}
 use Rattle.compare.proofs.Fronts.{lent_front}

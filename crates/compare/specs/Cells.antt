@@ -1,5 +1,5 @@
 -- A region's holes and its cell: the points of the region outside all its holes. Regions go by their numbers in the list.
-use Rattle.std.specs.Prelude.{ℕ, zero, suc, ◌+◌, Bool, true, false, not, ◌&&◌, ◌||◌, List, [], ◌∷◌, filter, slice_index_or}
+use Rattle.std.specs.Prelude.{ℕ, zero, suc, ◌+◌, Bool, false, not, ◌&&◌, ◌||◌, List, [], ◌∷◌, filter, slice_index_or}
 use Rattle.family.specs.Lists.{any_of}
 use Rattle.family.specs.declared.edges.Edge.{Edge}
 use Rattle.family.specs.declared.edges.Edge.TheVariants.{Near, Far}

@@ -11,7 +11,6 @@ use Rattle.supplied.specs.declared.routes.Route.{Route}
 use Rattle.fields.specs.declared.faults.FaultKind.TheVariants.{BrokenRule}
 use Rattle.fields.specs.declared.faults.Part.TheVariants.{Clause as InClause}
 use Rattle.records.specs.RangeRecords.{range_bytes}
-use Rattle.compare.specs.declared.reports.Declined.{Declined}
 use Rattle.compare.specs.declared.reports.Declined.TheVariants.{NoRegionPlace}
 use Rattle.files.specs.Checked.{checked}
 use Rattle.files.specs.Compared.{files_compared}

@@ -1,5 +1,5 @@
 -- The laws that every family of regions owes. A region means the set of points that it holds.
-use Rattle.std.specs.Prelude.{◌≡◌, ℕ, ◌+◌, ◌<◌, ◌≤◌, Bool, true, false, ◌&&◌, ◌⊎◌, List, [], ◌∷◌, length, Some, None, Option, ◌≢◌}
+use Rattle.std.specs.Prelude.{◌≡◌, ℕ, ◌+◌, ◌<◌, ◌≤◌, Bool, true, ◌&&◌, ◌⊎◌, List, [], ◌∷◌, length, Some, None, Option, ◌≢◌}
 use mathlib.Core.List.{Memᴰ}
 use Rattle.family.specs.declared.edges.Edge.{Edge}
 

@@ -3,7 +3,7 @@ use Rattle.std.proofs.Common.{◌≡◌, ℕ, zero, suc, ◌+◌, ◌*◌, ◌/�
 use Rattle.std.proofs.lemmas.List.{append_assoc}
 use Rattle.fields.specs.Fields.{Octets}
 use Rattle.fields.specs.Layouts.{places_from, fields_of}
-use Rattle.fields.specs.Reading.{Read, ◌>>=◌}
+use Rattle.fields.specs.Reading.{Read}
 use Rattle.fields.proofs.Inversion.{both_steps}
 use Rattle.fields.proofs.Places.{parity, at_odd, at_even}
 use Rattle.fields.proofs.Seen.{same_parts}

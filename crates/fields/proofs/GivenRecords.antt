@@ -1,12 +1,12 @@
 -- Records whose fields all have absent values: reading and writing undo each other.
-use Rattle.std.proofs.Common.{◌≡◌, ℕ, ◌+◌, ◌*◌, ◌^◌, ◌<◌, ◌≤◌, Bool, true, false, cond, ltb, List, [], ◌∷◌, ◌++◌, length, Ok, Result, sym, refl, ap, ◌∙◌, subst, pow-suc, arith}
+use Rattle.std.proofs.Common.{◌≡◌, ℕ, ◌+◌, ◌^◌, ◌<◌, ◌≤◌, Bool, true, false, cond, ltb, List, [], ◌∷◌, ◌++◌, length, Ok, Result, sym, ap, ◌∙◌, subst, pow-suc, arith}
 use Rattle.std.proofs.lemmas.Bool.{ltb-true, lt-ltb}
 use Rattle.supplied.specs.declared.errors.MakeError.{MakeError}
 use Rattle.fields.specs.Fields.{given_of, Octets}
-use Rattle.fields.specs.Layouts.{LayoutOf, places_of, places_from, fields_of, record_of}
+use Rattle.fields.specs.Layouts.{LayoutOf, places_of, record_of}
 use Rattle.fields.specs.Reading.{Read, ◌>>=◌}
 use Rattle.fields.specs.Undoing.{RecordLaws}
-use Rattle.fields.proofs.FieldBytes.{bytes_from, map_from, end_from, AllFit, Kept}
+use Rattle.fields.proofs.FieldBytes.{bytes_from, map_from, end_from, AllFit}
 use Rattle.fields.proofs.GivenFields.{present, spell, Fit, given_fields_back, given_fields_kept}
 use Rattle.fields.proofs.RecordBytes.{record_back, record_kept}
 

@@ -1,5 +1,5 @@
 -- What a reading that succeeded says of its steps.
-use Rattle.std.proofs.Common.{◌≡◌, ℕ, Bool, true, false, cond, List, Ok, Err, Result, refl, ap, arith}
+use Rattle.std.proofs.Common.{◌≡◌, ℕ, Bool, true, false, cond, Ok, Err, Result, refl, arith}
 use Rattle.fields.specs.Reading.{◌>>=◌}
 
 module _ {X E : Type 0} where

@@ -1,8 +1,8 @@
 -- A number in its bytes: read back from them, and written back to them.
-use Rattle.std.proofs.Common.{◌≡◌, ℕ, zero, suc, ◌+◌, ◌*◌, ◌/◌, ◌%◌, ◌^◌, ◌<◌, Bool, true, false, cond, not, eqb, List, [], ◌∷◌, ◌++◌, Ok, Err, sym, refl, ap, ◌∙◌, subst, pow-suc, arith}
+use Rattle.std.proofs.Common.{◌≡◌, ℕ, zero, suc, ◌+◌, ◌*◌, ◌/◌, ◌%◌, ◌^◌, ◌<◌, false, eqb, List, [], ◌∷◌, ◌++◌, Ok, sym, refl, ap, ◌∙◌, subst, pow-suc, arith}
 use Rattle.std.proofs.lemmas.List.{append_assoc}
-use Rattle.fields.specs.Fields.{spelled, field_of, given_of, bytes_of, given_bytes, Octets}
-use Rattle.fields.specs.Reading.{Read, ◌>>=◌}
+use Rattle.fields.specs.Fields.{spelled, field_of, given_of, bytes_of, Octets}
+use Rattle.fields.specs.Reading.{◌>>=◌}
 use Rattle.fields.proofs.Inversion.{both_steps, not_refused, never-read}
 use Rattle.fields.proofs.Seen.{same_parts}
 

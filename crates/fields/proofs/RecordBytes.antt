@@ -1,5 +1,5 @@
 -- A record, from its map and its fields.
-use Rattle.std.proofs.Common.{◌≡◌, ℕ, ◌+◌, ◌<◌, true, List, [], ◌∷◌, ◌++◌, Ok, Err, Result, sym, refl, ap, ◌∙◌, subst, zero-add}
+use Rattle.std.proofs.Common.{◌≡◌, ℕ, ◌+◌, ◌<◌, true, List, [], ◌∷◌, Ok, Err, Result, refl, ap, ◌∙◌, subst, zero-add}
 use Rattle.supplied.specs.declared.errors.MakeError.{MakeError}
 use Rattle.fields.specs.Fields.{Octets}
 use Rattle.fields.specs.Layouts.{LayoutOf, places_of, fields_of, numbers_of, made_of, record_of}

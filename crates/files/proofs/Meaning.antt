@@ -1,5 +1,5 @@
 -- The comparison of two files means what it should.
-use Rattle.std.proofs.Common.{◌≡◌, ℕ, ◌≤◌, List, length, take, replicate, Ok, Err, Result, sym, refl, ap, ◌∙◌, subst, arith}
+use Rattle.std.proofs.Common.{◌≡◌, ℕ, List, length, take, replicate, Ok, Err, Result, sym, refl, ap, ◌∙◌, subst, arith}
 use lib.ListN.{length-replicate}
 use Rattle.std.proofs.lemmas.List.{take_all}
 use Rattle.family.specs.declared.clauses.Clause.{Clause}
@@ -12,17 +12,15 @@ use Rattle.fields.specs.declared.faults.Fault.{Fault}
 use Rattle.compare.specs.declared.reports.Declined.{Declined}
 use Rattle.compare.specs.declared.reports.Report.{Report}
 use Rattle.compare.specs.declared.rows.Row.{Row}
-use Rattle.compare.specs.Answered.{Reports, HadTo, Rightly}
-use Rattle.compare.specs.Compared.{unless_declined, outcome, regions_after, list_for, rows_in, holes_in}
+use Rattle.compare.specs.Answered.{Reports, HadTo}
+use Rattle.compare.specs.Compared.{outcome, regions_after}
 use Rattle.compare.proofs.AnsweredRightly.{answered_rightly}
 use Rattle.compare.proofs.Outcomes.{report_told}
 use Rattle.compare.proofs.RowsReported.{rows-reported}
 use Rattle.listing.specs.Listings.{listing}
-use Rattle.files.specs.declared.refusals.Refusal.{Refusal}
-use Rattle.files.specs.declared.refusals.Refusal.TheVariants.{Left, Right, Comparison}
-use Rattle.files.specs.Compared.{Filter, file_read, filter_of, regions_listed, rows_listed, holes_listed, answered, found_by, listing_in, filters_compared, of_side, files_compared}
+use Rattle.files.specs.Compared.{Filter, file_read, filter_of, regions_listed, rows_listed, holes_listed, answered, found_by, listing_in, filters_compared, files_compared}
 use Rattle.files.proofs.NoRows.{no_rows}
-use Rattle.files.specs.Meant.{ListsUnlike, HadToDecline, OfFilters, Meant}
+use Rattle.files.specs.Meant.{ListsUnlike, HadToDecline, Meant}
 
 abbrev FileRead : Type 0
 FileRead = List (Clause PrefixRange RouteAction) × RouteAction

@@ -8,7 +8,6 @@ use Rattle.fields.specs.Reading.{◌>>=◌}
 use Rattle.compare.specs.declared.reports.Declined.{Declined}
 use Rattle.compare.specs.declared.reports.Report.{Report}
 use Rattle.compare.specs.declared.rows.Row.{Row}
-use Rattle.files.specs.declared.refusals.Refusal.{Refusal}
 use Rattle.files.specs.declared.refusals.Refusal.TheVariants.{Left, Right}
 use Rattle.files.specs.Compared.{Filter, file_read, filter_of, of_side, files_compared, regions_listed, rows_listed, holes_listed, answered, found_by, listing_in, filters_compared}
 use Rattle.files.specs.Printed.{report_text, compared_text, right_text, left_text, printed_text, text_of}

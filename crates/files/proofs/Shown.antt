@@ -18,7 +18,7 @@ use Rattle.compare.specs.declared.reports.Report.{Report}
 use Rattle.compare.specs.declared.rows.Row.{Row}
 use Rattle.compare.specs.Compared.{used_places, front_of, unless_declined, list_for, rows_in, holes_in, outcome, regions_after}
 use Rattle.compare.proofs.AnsweredRightly.{front_back, used_back}
-use Rattle.compare.proofs.Outcomes.{Told, report_told}
+use Rattle.compare.proofs.Outcomes.{report_told}
 use Rattle.listing.specs.Listings.{listing}
 use Rattle.files.specs.declared.refusals.Refusal.{Refusal}
 use Rattle.files.specs.declared.refusals.Refusal.TheVariants.{Left, Right}

@@ -1,5 +1,5 @@
 -- A filter's view after an edit of its memory.
-use Rattle.std.proofs.Common.{◌≡◌, ℕ, suc, ◌+◌, ◌-◌, ◌<◌, ◌≤◌, min, ltb, leb, List, [], ◌∷◌, ◌++◌, map, length, get_or, take, drop, set, Ok, sym, refl, ap, ◌∙◌, append_assoc, arith, length-append, length-drop, length-set, length-take}
+use Rattle.std.proofs.Common.{◌≡◌, ℕ, ◌+◌, ◌-◌, ◌<◌, ◌≤◌, min, ltb, leb, List, ◌++◌, map, length, get_or, take, drop, set, Ok, sym, ap, ◌∙◌, append_assoc, arith, length-append, length-drop, length-set, length-take}
 use lib.ListN.{length-map}
 use Rattle.std.specs.List.{insert, remove}
 use Rattle.std.proofs.lemmas.List.Edits.{length-insert, length-remove}

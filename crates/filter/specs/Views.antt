@@ -1,5 +1,5 @@
 -- What a filter is, seen over the clause memory that it lies in.
-use Rattle.std.specs.Prelude.{◌≡◌, ℕ, ◌-◌, min, List, [], map, length, take, Ok, Err, Result, slice_index_or, slice_set}
+use Rattle.std.specs.Prelude.{ℕ, ◌-◌, min, List, [], map, length, take, Ok, Err, Result, slice_index_or, slice_set}
 use Rattle.family.specs.declared.clauses.Clause.{Clause}
 use Rattle.fields.specs.declared.faults.Fault.{Fault}
 use Rattle.filterfile.specs.Files.{usable_places, places_after}

@@ -1,9 +1,8 @@
 -- What is answered where a file is written, and what the buffer then holds.
-use Rattle.std.proofs.Common.{◌≡◌, ℕ, ◌<◌, ◌≤◌, List, length, Ok, Err, ap, ◌∙◌, arith}
+use Rattle.std.proofs.Common.{◌≡◌, ℕ, ◌<◌, ◌≤◌, List, length, Ok, Err, ap}
 use Rattle.std.proofs.lemmas.Bool.{le-leb, lt-leb, le-ltb}
 use Rattle.buffers.specs.Buffers.{Placed, written}
 use Rattle.buffers.proofs.Placing.{whole_length, held}
-use Rattle.filterfile.specs.declared.writing.WriteError.{WriteError}
 use Rattle.filterfile.specs.declared.writing.WriteError.TheVariants.{BufferTooShort}
 use Rattle.filterfile.specs.WrittenFiles.{answer_in, write_answer, written_file}
 

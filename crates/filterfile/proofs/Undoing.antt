@@ -1,15 +1,13 @@
 -- Writing a file and reading it undo each other.
-use Rattle.std.proofs.Common.{◌≡◌, ℕ, zero, suc, ◌+◌, ◌<◌, ◌≤◌, List, [], ◌∷◌, ◌++◌, length, get_or, take, Ok, Err, Result, sym, refl, ap, ◌∙◌, subst, arith}
+use Rattle.std.proofs.Common.{◌≡◌, ℕ, List, [], ◌∷◌, ◌++◌, length, sym, refl, ap, ◌∙◌, subst}
 use Rattle.std.proofs.lemmas.List.{append_assoc, append-nil}
 use Rattle.std.specs.List.{flat_map}
 use Rattle.family.specs.declared.clauses.Clause.{Clause}
-use Rattle.fields.specs.declared.faults.Fault.{Fault}
 use Rattle.fields.specs.Fields.{Octets}
 use Rattle.fields.specs.Reading.{Read}
 use Rattle.fields.specs.Undoing.{RecordLaws}
 use Rattle.fields.proofs.NumberBytes.{octets_behind}
-use Rattle.filterfile.specs.AcceptedFiles.{Laid, none, next, Accepted, Rightly}
-use Rattle.filterfile.specs.Files.{file_of, answer_of, places_after}
+use Rattle.filterfile.specs.AcceptedFiles.{Laid, none, next, Accepted}
 use Rattle.filterfile.specs.WrittenFiles.{clause_bytes, file_bytes, WrittenBack, ReadBack, ClausesFit}
 use Rattle.filterfile.proofs.Accepting.{read_if_accepted, accepted_if_read}
 

@@ -1,5 +1,5 @@
 -- A route action is read back from its record, and the record is written back.
-use Rattle.std.specs.Prelude.{◌≡◌, ℕ, zero, suc, ◌^◌, ◌<◌, true, false, cond, ◌&&◌, List, [], ◌∷◌, ◌++◌, Some, None, Ok, Option, ◌==◌, nat_lt, refl}
+use Rattle.std.specs.Prelude.{◌≡◌, ℕ, zero, suc, ◌^◌, ◌<◌, true, false, cond, ◌&&◌, List, [], ◌∷◌, ◌++◌, Some, None, Ok, ◌==◌, nat_lt, refl}
 use Rattle.std.proofs.Common.{sym, ap, ◌∙◌, ⊎_elim, arith}
 use Rattle.std.proofs.lemmas.List.{append_assoc}
 use Rattle.std.proofs.lemmas.Bool.{eqb-true, ltb-true, or_cases, and_parts}
@@ -10,8 +10,8 @@ use Rattle.fields.specs.Layouts.{places_from, places_of, fields_of, record_of}
 use Rattle.fields.specs.Reading.{◌>>=◌}
 use Rattle.fields.specs.Undoing.{RecordLaws}
 use Rattle.fields.proofs.Inversion.{both_steps}
-use Rattle.fields.proofs.NumberBytes.{field_back, Spelt, field_kept}
-use Rattle.fields.proofs.RecordBytes.{record_back, Parts, record_kept}
+use Rattle.fields.proofs.NumberBytes.{field_back, field_kept}
+use Rattle.fields.proofs.RecordBytes.{record_back, record_kept}
 use Rattle.fields.proofs.Seen.{same_parts}
 use Rattle.records.specs.declared.actions.ActionNumbers.{ActionNumbers}
 use Rattle.records.specs.ActionRecords.{action_numbers, action_field, action_layout, action_bytes, ActionFits, is_accept}

@@ -7,7 +7,7 @@ use Rattle.supplied.specs.declared.actions.Verdict.TheVariants.{Reject, Accept}
 use Rattle.fields.specs.Fields.{Octets}
 use Rattle.fields.specs.Layouts.{LayoutOf, places_from, places_of, fields_of, record_of}
 use Rattle.fields.specs.Undoing.{RecordLaws}
-use Rattle.fields.proofs.RecordBytes.{record_back, Parts, record_kept}
+use Rattle.fields.proofs.RecordBytes.{record_back, record_kept}
 use Rattle.fields.proofs.Seen.{same_parts}
 use Rattle.records.specs.declared.verdicts.VerdictNumbers.{VerdictNumbers}
 use Rattle.records.specs.ActionRecords.{is_accept}

@@ -5,7 +5,7 @@ use mathlib.Core.List.{Memᴰ}
 use Rattle.std.proofs.lemmas.Bool.{le-leb, lt-leb}
 use Rattle.family.specs.declared.edges.Edge.{Edge}
 use Rattle.family.specs.Families.{FamilyLaws, Choice, moved, walked, AllFrom}
-use Rattle.supplied.specs.Pairs.{pair, pair_axes, pair_holds, pair_inside, pair_meet, pair_shifted}
+use Rattle.supplied.specs.Pairs.{pair, pair_axes, pair_holds, pair_shifted}
 use Rattle.supplied.specs.PairShifts as shifts
 use Rattle.supplied.specs.PairShifts.{first_of, second_of}
 use Rattle.supplied.specs.PairLaws.{pair_laws}

@@ -1,4 +1,4 @@
-use Rattle.std.proofs.Common.{◌≡◌, ◌<◌, Bool, length, sym, ap, ◌∙◌, arith}
+use Rattle.std.proofs.Common.{◌≡◌, ◌<◌, length, sym, ap, ◌∙◌, arith}
 use Rattle.std.proofs.lemmas.List.{get_or_default}
 use Rattle.compare.specs.Cells.{region_at, strictly, below}
 use Rattle.compare.proofs.Kept.{keeps_put, keeps_left, keeps_all, numbers_at, numbers-end}

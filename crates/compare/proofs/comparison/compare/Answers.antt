@@ -1,4 +1,4 @@
-use Rattle.std.proofs.Common.{◌≡◌, ◌-◌, ◌<◌, ◌≤◌, min, ◌++◌, length, take, drop, Some, None, Err, sym, refl, ap, ◌∙◌, subst, arith, length-take}
+use Rattle.std.proofs.Common.{◌≡◌, ◌-◌, ◌<◌, ◌≤◌, ◌++◌, length, take, drop, Some, None, Err, refl, ap, ◌∙◌, subst, arith, length-take}
 use borrow.Rule.Slice.PartMut.{post_of}
 use Rattle.filter.specs.States.{sealed_view}
 use Rattle.compare.specs.declared.reports.Declined.TheVariants.{TooManyAxes, NoRegionPlace}

@@ -1,11 +1,10 @@
-use Rattle.std.proofs.Common.{◌≡◌, ◌-◌, ◌<◌, ◌≤◌, min, ◌++◌, length, take, drop, Some, Ok, sum_by, sym, refl, ap, ◌∙◌, subst, arith, length-take}
+use Rattle.std.proofs.Common.{◌≡◌, min, ◌++◌, length, take, drop, Ok, sum_by, sym, refl, ap, ◌∙◌, arith, length-take}
 use lib.ListN.{length-replicate}
 use Rattle.filter.specs.States.{sealed_view}
 use Rattle.compare.specs.Rows.{rows_found, laid, holes_of_rows}
-use Rattle.compare.specs.Written.{Written}
 use Rattle.compare.proofs.Fronts.{lent_front}
 use Rattle.compare.proofs.LaidOut.{hole_count, length-laid}
-use Rattle.compare.proofs.ReportMade.{found-over, rows-laid, holes_laid_out, row_count, hole_count_lem, no_row_place, no_hole_place, all_placed}
+use Rattle.compare.proofs.ReportMade.{found-over, rows-laid, holes_laid_out, hole_count_lem, no_row_place, no_hole_place, all_placed}
 use Rattle.compare.proofs.comparison.report_on.Goals as goal
 
 pub returns-then-count-rows : goal.returns-then-count-rows

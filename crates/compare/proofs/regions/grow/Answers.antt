@@ -1,4 +1,4 @@
-use Rattle.std.proofs.Common.{◌≡◌, ℕ, ◌+◌, ◌-◌, ◌<◌, ◌≤◌, length, take, Some, None, Option, sym, refl, ap, ◌∙◌, subst, arith, length-take}
+use Rattle.std.proofs.Common.{◌≡◌, ℕ, ◌+◌, ◌-◌, ◌<◌, ◌≤◌, length, take, Some, None, Option, sym, ap, ◌∙◌, subst, arith, length-take}
 use Rattle.compare.specs.Regions.{put_meets, grown}
 use Rattle.compare.specs.Written.{Written}
 use Rattle.compare.proofs.Extended.{put_meets_extends, grown_extends, extends_length}

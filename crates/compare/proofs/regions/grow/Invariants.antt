@@ -1,7 +1,6 @@
-use Rattle.std.proofs.Common.{◌≡◌, ◌-◌, ◌≤◌, List, length, take, Some}
+use Rattle.std.proofs.Common.{◌≡◌, ◌-◌, ◌≤◌, length, take, Some}
 use Rattle.compare.specs.Regions.{grown}
 use Rattle.compare.specs.Written.{Written}
-use Rattle.compare.proofs.Extended.{Extends}
 use Rattle.compare.proofs.regions.grow.Given as goal
 
 -- what is left of the turns, from the list so far, gives the whole list

@@ -1,4 +1,4 @@
-use Rattle.std.proofs.Common.{◌≡◌, ℕ, ◌+◌, take, Some, None, Option, subst, arith}
+use Rattle.std.proofs.Common.{◌≡◌, ℕ, ◌+◌, take, Some, None, Option, subst}
 use Rattle.std.proofs.lemmas.List.{take_all}
 use Rattle.compare.specs.Regions.{put, put_clauses}
 use Rattle.compare.specs.Written.{Written}

@@ -1,4 +1,4 @@
-use Rattle.std.proofs.Common.{take, Some, sym, subst}
+use Rattle.std.proofs.Common.{take, Some, subst}
 use Rattle.compare.specs.Regions.{put_meet}
 use Rattle.compare.specs.Written.{Written}
 use Rattle.compare.proofs.Fronts.{written_start}

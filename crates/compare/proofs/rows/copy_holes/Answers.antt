@@ -1,4 +1,4 @@
-use Rattle.std.proofs.Common.{◌≡◌, ◌≤◌, length, sym, ap, ◌∙◌, arith, length-take}
+use Rattle.std.proofs.Common.{◌≡◌, length, ap, ◌∙◌, arith, length-take}
 use Rattle.compare.specs.Cells.{holes_of}
 use Rattle.compare.proofs.Fronts.{lent_front, written_part}
 use Rattle.compare.proofs.rows.copy_holes.Goals as goal

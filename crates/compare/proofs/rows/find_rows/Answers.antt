@@ -1,4 +1,4 @@
-use Rattle.std.proofs.Common.{◌≡◌, ◌+◌, take, drop, sym, ap, ◌∙◌, arith}
+use Rattle.std.proofs.Common.{◌+◌, take, drop, sym, ap, ◌∙◌, arith}
 use Rattle.compare.specs.Cells.{numbers}
 use Rattle.compare.specs.Rows.{ranked_some, ranked_from}
 use Rattle.compare.proofs.Kept.{numbers_at, numbers-end}

@@ -1,6 +1,6 @@
-use Rattle.std.proofs.Common.{◌≡◌, ◌≤◌, [], take, drop, fold}
+use Rattle.std.proofs.Common.{◌≡◌, ◌≤◌, [], take, drop}
 use Rattle.compare.specs.Cells.{numbers}
-use Rattle.compare.specs.Rows.{rows_found, ranked_from}
+use Rattle.compare.specs.Rows.{ranked_from}
 use Rattle.compare.proofs.rows.find_rows.Given as goal
 
 -- the rows so far, with those of the regions that are left, are all rows

@@ -1,7 +1,7 @@
-use Rattle.std.proofs.Common.{◌≡◌, ◌+◌, ◌<◌, ◌≤◌, ◌++◌, length, get_or, take, drop, sum_by, sym, ap, ◌∙◌, arith}
+use Rattle.std.proofs.Common.{◌≡◌, ◌++◌, length, take, drop, ap, ◌∙◌, arith}
 use Rattle.std.proofs.lemmas.List.{get_or_default, take_all}
 use Rattle.compare.specs.Rows.{laid}
-use Rattle.compare.proofs.LaidOut.{hole_count, start-more, start_fits, laid_more}
+use Rattle.compare.proofs.LaidOut.{start-more, start_fits, laid_more}
 use Rattle.compare.proofs.rows.lay_rows.Goals as goal
 
 pub overflow_add-start : goal.overflow_add-start

@@ -1,7 +1,7 @@
-use Rattle.std.proofs.Common.{◌≡◌, ◌≤◌, Bool, ◌∷◌, length, sym, ap, ◌∙◌, arith, length-drop, length-take}
+use Rattle.std.proofs.Common.{◌≡◌, ◌≤◌, ◌∷◌, length, sym, ap, ◌∙◌, arith, length-drop, length-take}
 use lib.ListN.{length-replicate}
 use Rattle.compare.specs.Cells.{region_at, holes_of, occupied}
-use Rattle.compare.specs.Rows.{place_of, alike_at}
+use Rattle.compare.specs.Rows.{alike_at}
 use Rattle.compare.proofs.Fronts.{filled_behind}
 use Rattle.compare.proofs.RowFound.{no_row_alike, no_row_empty, row_stands}
 use Rattle.compare.proofs.rows.row_of.Given as given

@@ -1,11 +1,11 @@
-use Rattle.std.proofs.Common.{◌≡◌, ◌+◌, ◌≤◌, [], ◌++◌, length, get_or, take, Some, fold, sym, refl, ap, ◌∙◌, subst, arith, length-append}
+use Rattle.std.proofs.Common.{◌≡◌, ◌+◌, [], ◌++◌, length, get_or, take, Some, fold, refl, ap, subst, arith, length-append}
 use Rattle.std.proofs.lemmas.List.{get_or_default, take_all}
 use Rattle.std.proofs.lemmas.List.Sums.{fold_more}
 use Rattle.compare.specs.Cells.{holes_of, region_at}
 use Rattle.compare.specs.Rows.{add_holes, holes_of_rows}
 use Rattle.compare.specs.Written.{Written}
 use Rattle.compare.proofs.Extended.{extends_length, folded_front, add_holes_extends}
-use Rattle.compare.proofs.Fronts.{written_step, written-length}
+use Rattle.compare.proofs.Fronts.{written_step}
 use Rattle.compare.proofs.rows.write_holes.Goals as goal
 
 pub loop-row-init : goal.loop-row-init

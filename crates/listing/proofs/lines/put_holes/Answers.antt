@@ -1,7 +1,7 @@
-use Rattle.std.proofs.Common.{refl, arith}
+use Rattle.std.proofs.Common.{refl}
 use Rattle.listing.specs.Listings.{hole_text}
 use Rattle.buffers.proofs.Joining.{joined-take, joined-all}
-use Rattle.buffers.proofs.Placing.{placed_same, placed_nothing, ◌then◌}
+use Rattle.buffers.proofs.Placing.{placed_same, ◌then◌}
 use Rattle.listing.proofs.lines.put_holes.Goals as goal
 
 pub loop-hole-preserved : goal.loop-hole-preserved

@@ -1,4 +1,4 @@
-use Rattle.std.proofs.Common.{◌≡◌, sym, ap, ◌∙◌, subst}
+use Rattle.std.proofs.Common.{sym, ap, ◌∙◌, subst}
 use Rattle.family.specs.Clauses.{action_at}
 use Rattle.family.specs.Lists.{first_where}
 use Rattle.family.proofs.Searches.{first-bound, first-before, first-here}

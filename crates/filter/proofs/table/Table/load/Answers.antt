@@ -1,4 +1,4 @@
-use Rattle.std.proofs.Common.{◌≡◌, ◌-◌, length, set, sym, refl, ap, ◌∙◌}
+use Rattle.std.proofs.Common.{◌-◌, length, set, sym, refl, ap, ◌∙◌}
 use Rattle.filterfile.specs.Files.{file_of, places_after}
 use Rattle.filter.specs.Views.{view_of, with_default, loaded_view, loaded_places, load_answer}
 use Rattle.filter.proofs.Loaded.{file-fits, file-refused, file-read}

@@ -1,4 +1,4 @@
-use Rattle.std.proofs.Common.{◌-◌, length, set, sym, refl, ap, ◌∙◌}
+use Rattle.std.proofs.Common.{◌-◌, length, set, refl, ap, ◌∙◌}
 use Rattle.filter.specs.Views.{view_of}
 use Rattle.filter.proofs.Viewed.{fresh}
 use Rattle.filter.proofs.table.Table.new.Goals as goal

@@ -1,4 +1,4 @@
-use Rattle.std.proofs.Common.{◌≡◌, ◌<◌, ◌≤◌, length, set, sym, refl, ap, ◌∙◌, arith}
+use Rattle.std.proofs.Common.{◌<◌, set, refl, ap, ◌∙◌, arith}
 use Rattle.filter.specs.Ledger.{if_done, with_clauses}
 use Rattle.filter.specs.Views.{view_of, clauses_in}
 use Rattle.filter.proofs.Edited.{after_replace_lem, counted, place_held}

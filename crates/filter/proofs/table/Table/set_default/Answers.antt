@@ -1,7 +1,6 @@
-use Rattle.std.proofs.Common.{◌≡◌, ◌-◌, ◌<◌, min, length, take, set, sym, refl, ap, ◌∙◌, arith}
-use Rattle.filterfile.specs.Files.{usable_places}
+use Rattle.std.proofs.Common.{◌-◌, ◌<◌, length, set, refl, ap, ◌∙◌, arith}
 use Rattle.filter.specs.Ledger.{if_done}
-use Rattle.filter.specs.Views.{view_of, with_default}
+use Rattle.filter.specs.Views.{view_of}
 use Rattle.filter.proofs.Edited.{redefaulted, default_placed}
 use Rattle.filter.proofs.table.Table.set_default.Goals as goal
 

@@ -1,7 +1,6 @@
 use Rattle.std.proofs.Common.{◌+◌, ◌*◌, [], ◌∷◌, ◌++◌, sym, ap, ◌∙◌, subst}
 use Rattle.buffers.proofs.Placing.{◌then◌, placed_same}
 use Rattle.records.specs.ActionRecords.{action_bytes, ActionFits, number_bit, number_bytes}
-use Rattle.supplied.specs.declared.actions.RouteAction.TheVariants.{Accept}
 use Rattle.records.proofs.actions.RouteActionWrittenAction.write.Goals as goal
 
 pub returns-in-Accept : goal.returns-in-Accept

@@ -1,4 +1,4 @@
-use Rattle.std.proofs.Common.{◌≡◌, ◌+◌, ◌*◌, ◌^◌, ◌<◌, [], ◌∷◌, ap, ◌∙◌, arith}
+use Rattle.std.proofs.Common.{◌+◌, ◌*◌, ◌^◌, ◌<◌, [], ◌∷◌, ap, ◌∙◌, arith}
 use Rattle.supplied.specs.Spans.{span_holds}
 use Rattle.buffers.proofs.Placing.{◌then◌, placed_same}
 use Rattle.fields.specs.Fields.{given_bytes, given_bit}
