@@ -29,6 +29,11 @@ pub faultless : {X : Type 0} (fault : Option MakeError) (make : fault ≡ None �
 faultless (Some d) make x h = let z : ◌≡◌ {A = ℕ} 0 1 = cc in absurd (omega arith)
 faultless None make x h = (refl, cc)
 
+-- where nothing is made, there was that fault
+pub faulted : {X : Type 0} (fault : Option MakeError) (make : fault ≡ None → X) (e : MakeError) → unless_fault fault make ≡ Err e → fault ≡ Some e
+faulted (Some d) make e h = cc
+faulted None make e h = cc
+
 -- what is made where a test passes
 abbrev pub if_true : {X : Type 0} (b : Bool) → (b ≡ true → X) → Option X
 if_true true make = Some (make refl)

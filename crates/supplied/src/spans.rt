@@ -2,7 +2,6 @@
 ghost use Rattle.std.specs.Prelude.{◌≤◌};
 
 mod making;
-mod parts;
 mod questions;
 
 #[derive(Clone, Copy)]

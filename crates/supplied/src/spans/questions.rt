@@ -3,6 +3,7 @@ ghost use Rattle.supplied.specs.Spans.{whole_span, first_number, span_holds, spa
 ghost use Rattle.supplied.specs.SpanLaws.{span_laws};
 
 use super::{Span, SpanPoint};
+use crate::edges::to_edge;
 use family::{Edge, Family};
 
 impl<const TOP: u32> Family for Span<TOP> {
@@ -58,7 +59,8 @@ impl<const TOP: u32> Family for Span<TOP> {
         if axis != 1 {
             return point;
         }
-        let value = self.shifted_number(point.value, edge);
-        SpanPoint { value }
+        SpanPoint {
+            value: to_edge(TOP, self.low, self.high, edge, point.value),
+        }
     }
 }

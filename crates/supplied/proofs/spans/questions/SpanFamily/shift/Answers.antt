@@ -6,4 +6,4 @@ use Rattle.supplied.proofs.spans.questions.SpanFamily.shift.Goals as goal
 pub returns : goal.returns
 returns g c =
     at_edge g.row.TOP c.args.point _ c.args.axis c.args.edge c.args.self (omega arith)
-    c.shifted_number-value.ensures
+    c.to_edge.ensures
