@@ -50,3 +50,7 @@ if_none false make h = refl
 pub some_if : {X : Type 0} (b : Bool) (make : b ≡ true → X) (x : X) → b ≡ true → ((e : b ≡ true) → make e ≡ x) → if_true b make ≡ Some x
 some_if true make x h same = ap Some (same refl)
 some_if false make x h same = cc
+
+pub none_if : {X : Type 0} (b : Bool) (make : b ≡ true → X) → b ≡ false → if_true b make ≡ None
+none_if true make h = cc
+none_if false make h = refl

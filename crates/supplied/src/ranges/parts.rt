@@ -22,7 +22,6 @@ impl PrefixRange {
 
     // The meet with a range whose prefix is not longer.
     pub(crate) fn narrowed(self, other: PrefixRange) -> Option<PrefixRange>
-        requires { other.length ≤ self.length }
         ensures { result ≡ prefix_narrowed self other }
     {
         if !other.covers(self.address) {

@@ -46,12 +46,7 @@ impl<const TOP: u32> Family for Span<TOP> {
     }
 
     fn meet_with(self, other: Span<TOP>) -> Option<Span<TOP>> {
-        let low = self.low.max(other.low);
-        let high = self.high.min(other.high);
-        if low > high {
-            return None;
-        }
-        Some(Span { low, high })
+        Span::new(self.low.max(other.low), self.high.min(other.high)).ok()
     }
 
     // The one axis is the number itself.
