@@ -7,7 +7,7 @@ use crate::spans::{AddressSpan, AsSpan, PortSpan, ProtocolSpan};
 use family::{Edge, Family};
 
 // Two regions, or a point of each.
-#[derive(Clone, Copy)]
+#[derive(Clone, Copy, PartialEq, Eq, Debug)]
 pub struct Pair<A, B> {
     pub first: A,
     pub second: B,

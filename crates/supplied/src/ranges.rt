@@ -5,7 +5,7 @@ mod making;
 mod parts;
 mod questions;
 
-#[derive(Clone, Copy)]
+#[derive(Clone, Copy, PartialEq, Eq, Debug)]
 pub struct PrefixRange {
     address: u32,
     length: u8,

@@ -46,9 +46,7 @@ impl Family for PrefixRange {
     }
 
     fn holds_point(self, point: Route) -> bool {
-        self.low <= point.length()
-            && point.length() <= self.high
-            && self.covers(point.address())
+        self.low <= point.length() && point.length() <= self.high && self.covers(point.address())
     }
 
     fn is_inside(self, other: PrefixRange) -> bool {
