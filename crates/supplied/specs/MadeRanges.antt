@@ -4,7 +4,7 @@ use Rattle.std.proofs.Common.{sym, ap, ap₂, ◌∙◌, arith}
 use Rattle.std.proofs.lemmas.Bool.{leb-true, le-leb, and_parts}
 use Rattle.supplied.specs.Carried.{Same}
 use Rattle.supplied.specs.Making.{unless_fault, or_else, passed, refused, made, faultless}
-use Rattle.supplied.specs.MadeRoutes.{route_fault, made_route, route_faultless, route_faulted, route_numbers}
+use Rattle.supplied.specs.MadeRoutes.{made_route, route_faultless, route_faulted}
 use Rattle.supplied.specs.Prefixes.{is_prefix, prefix_bound, prefix_zeros, is_prefix_lem}
 use Rattle.supplied.specs.PrefixValues.{range_values}
 use Rattle.supplied.specs.Ranges.{Range, same_range}

@@ -1,7 +1,7 @@
 -- What is made is the range with the lengths that both allow.
 use Rattle.std.proofs.Common.{◌≡◌, ◌≤◌, min, max, true, leb, sym, refl, ap, ◌∙◌, arith}
 use Rattle.std.proofs.lemmas.Bool.{and_from, le-leb}
-use Rattle.supplied.specs.Carried.{mapped}
+use Rattle.std.specs.Option.{option_map}
 use Rattle.supplied.specs.Making.{some_if}
 use Rattle.supplied.specs.Prefixes.{agree}
 use Rattle.supplied.specs.PrefixValues.{range_values}
@@ -17,5 +17,5 @@ returns c =
     let t : overlaps 32 a b ≡ true = and_from (agree 32 b.length a.address b.address) (leb (max a.low b.low) (min a.high b.high)) agreed
     (le-leb (max a.low b.low) (min a.high b.high) le) in
     sym
-    (ap (mapped range_values.back)
+    (ap (option_map range_values.back)
     (some_if (overlaps 32 a b) (narrow_to 32 a b) _ t (λ e. same_range (narrow_to 32 a b e) _ refl refl (sym c.max-low.ensures) (sym c.min-high.ensures))))
