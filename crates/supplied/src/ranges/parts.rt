@@ -32,6 +32,7 @@ impl PrefixRange {
         if low > high {
             return None;
         }
+        // `..self` is refused in a struct with ghost fields.
         Some(PrefixRange {
             address: self.address,
             length: self.length,
