@@ -1,19 +1,15 @@
 -- A family carried over to types with the same regions and the same points: its laws hold there too.
-use Rattle.std.specs.Prelude.{◌≡◌, ℕ, ◌+◌, Bool, List, [], ◌∷◌, map, Some, None, Option, refl}
-use Rattle.std.proofs.Common.{sym, ap, ◌∙◌, arith}
+use Rattle.std.specs.Prelude.{◌≡◌, ℕ, ◌+◌, Bool, List, [], ◌∷◌, map, Some, None, Option, option_map, refl}
+use Rattle.std.proofs.Common.{sym, ap, ◌∙◌}
 use Rattle.family.specs.declared.edges.Edge.{Edge}
 use Rattle.family.specs.Families.{FamilyLaws, Choice, still, toward, moved, walked}
 use Rattle.supplied.specs.Walks.{seen, reached_through}
 
-abbrev pub mapped : {A B : Type 0} → (A → B) → Option A → Option B
-mapped f (Some a) = Some (f a)
-mapped f None = None
-
-mapped-some : {A B : Type 0} (f : A → B) (o : Option A) (b : B) → mapped f o ≡ Some b → (a : A) × (o ≡ Some a) × (f a ≡ b)
+mapped-some : {A B : Type 0} (f : A → B) (o : Option A) (b : B) → option_map f o ≡ Some b → (a : A) × (o ≡ Some a) × (f a ≡ b)
 mapped-some f (Some a) b h = (a, refl, cc)
-mapped-some f None b h = let z : ◌≡◌ {A = ℕ} 0 1 = cc in absurd (omega arith)
+mapped-some f None b h = absurd (cc)
 
-mapped-none : {A B : Type 0} (f : A → B) (o : Option A) → mapped f o ≡ None → o ≡ None
+mapped-none : {A B : Type 0} (f : A → B) (o : Option A) → option_map f o ≡ None → o ≡ None
 mapped-none f (Some a) h = cc
 mapped-none f None h = refl
 
@@ -29,7 +25,7 @@ module _ {R S : Type 0} (regions : Same S R) where
   carried_inside inside a b = inside (regions.to a) (regions.to b)
 
   abbrev pub carried_meet : (R → R → Option R) → S → S → Option S
-  carried_meet meet a b = mapped regions.back (meet (regions.to a) (regions.to b))
+  carried_meet meet a b = option_map regions.back (meet (regions.to a) (regions.to b))
 
 module _ {R P S Q : Type 0} (regions : Same S R) (points : Same Q P) where
   abbrev pub carried_holds : (R → P → Bool) → S → Q → Bool

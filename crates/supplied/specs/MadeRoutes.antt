@@ -3,7 +3,7 @@ use Rattle.std.specs.Prelude.{◌≡◌, ℕ, Some, None, Ok, Err, Option, Resul
 use Rattle.std.proofs.Common.{sym, ap, ◌∙◌}
 use Rattle.std.proofs.lemmas.Bool.{leb-true, le-leb}
 use Rattle.supplied.specs.Carried.{Same}
-use Rattle.supplied.specs.Making.{unless_fault, or_else, passed, refused, made, faultless}
+use Rattle.supplied.specs.Making.{unless_fault, or_else, passed, refused, made, faultless, faulted}
 use Rattle.supplied.specs.Prefixes.{is_prefix, prefix_bound, prefix_zeros, is_prefix_lem}
 use Rattle.supplied.specs.PrefixValues.{route_values}
 use Rattle.supplied.specs.Ranges.{Point, same_point}
@@ -66,3 +66,11 @@ unfolding made_route
 route_numbers address length p h =
     let e = sym (numbers_as route_values address length p h).1 in
     (ap (λ (q : Point 32). q.address) e, ap (λ (q : Point 32). q.length) e)
+
+pub route_faultless : (address length : ℕ) (p : Route) → made_route address length ≡ Ok p → route_fault 32 address length ≡ None
+unfolding made_route
+route_faultless address length p h = (numbers_as route_values address length p h).0
+
+pub route_faulted : (address length : ℕ) (e : MakeError) → made_route address length ≡ Err e → route_fault 32 address length ≡ Some e
+unfolding made_route
+route_faulted address length e h = faulted (route_fault 32 address length) (value_of route_values address length) e h

@@ -3,17 +3,13 @@ use Rattle.std.specs.Prelude.{◌≡◌, ℕ, ◌+◌, ◌-◌, ◌<◌, ◌≤�
 use Rattle.std.proofs.Common.{sym, ap, ap₂, ◌∙◌, inl, inr, ⊎_elim, arith, length-append}
 use mathlib.Core.List.{Memᴰ}
 use Rattle.std.proofs.lemmas.Bool.{le-leb, lt-leb, and_parts, and_from, cases_lt}
+use Rattle.std.proofs.lemmas.Bool.Decides.{same_from_decides}
 use Rattle.family.specs.declared.edges.Edge.{Edge}
 use Rattle.family.specs.Families.{FamilyLaws, Choice, walked, AllFrom}
 use Rattle.supplied.specs.Pairs.{pair, both_some, pair_axes, pair_holds, pair_inside, pair_meet, pair_shifted}
 use Rattle.supplied.specs.PairShifts.{first_of, second_of, walked_both}
 use Rattle.supplied.specs.Walks.{seen, all_append, reached_through}
 use Rattle.supplied.specs.declared.pairs.Pair.{Pair}
-
-same_bool : (a b : Bool) → (a ≡ true → b ≡ true) → (b ≡ true → a ≡ true) → a ≡ b
-same_bool true b f g = sym (f refl)
-same_bool false true f g = g refl
-same_bool false false f g = refl
 
 swap_middle : (a b c d : Bool) → ((a && b) && (c && d)) ≡ ((a && c) && (b && d))
 swap_middle true true c d = refl
@@ -23,12 +19,12 @@ swap_middle false b c d = refl
 
 both_given : {A B : Type 0} (a : Option A) (b : Option B) (m : Pair A B) → both_some a b ≡ Some m → (a ≡ Some m.first) × (b ≡ Some m.second)
 both_given (Some a) (Some b) m h = let e : pair a b ≡ m = cc in (ap (λ (x : Pair _ _). Some x.first) e, ap (λ (x : Pair _ _). Some x.second) e)
-both_given (Some a) None m h = let z : ◌≡◌ {A = ℕ} 0 1 = cc in absurd (omega arith)
-both_given None (Some b) m h = let z : ◌≡◌ {A = ℕ} 0 1 = cc in absurd (omega arith)
-both_given None None m h = let z : ◌≡◌ {A = ℕ} 0 1 = cc in absurd (omega arith)
+both_given (Some a) None m h = absurd (cc)
+both_given None (Some b) m h = absurd (cc)
+both_given None None m h = absurd (cc)
 
 one_none : {A B : Type 0} (a : Option A) (b : Option B) → both_some a b ≡ None → (a ≡ None) ⊎ (b ≡ None)
-one_none (Some a) (Some b) h = let z : ◌≡◌ {A = ℕ} 0 1 = cc in absurd (omega arith)
+one_none (Some a) (Some b) h = absurd (cc)
 one_none (Some a) None h = inr refl
 one_none None b h = inl refl
 
@@ -78,8 +74,8 @@ module _ {R P S Q : Type 0} {whole_f : R} {first_f : P} {m : ℕ} {holds_f : R �
       let there : (p : Pair P Q) → holds a p ≡ true → holds b p ≡ true = λ p h. sym (same p) ∙ h in
       let back : (p : Pair P Q) → holds b p ≡ true → holds a p ≡ true = λ p h. same p ∙ h in
       ap₂ pair
-      (f.same_points a.first b.first (λ p. same_bool (holds_f a.first p) (holds_f b.first p) (first_holds a b there p) (first_holds b a back p)))
-      (g.same_points a.second b.second (λ q. same_bool (holds_g a.second q) (holds_g b.second q) (second_holds a b there q) (second_holds b a back q)))
+      (f.same_points a.first b.first (λ p. same_from_decides (holds_f a.first p) (holds_f b.first p) (first_holds a b there p, first_holds b a back p) (λ h. h, λ h. h)))
+      (g.same_points a.second b.second (λ q. same_from_decides (holds_g a.second q) (holds_g b.second q) (second_holds a b there q, second_holds b a back q) (λ h. h, λ h. h)))
 
   meet-holds : (a b c : Pair R S) → meet a b ≡ Some c → (p : Pair P Q) → holds c p ≡ (holds a p && holds b p)
   meet-holds a b c h p =

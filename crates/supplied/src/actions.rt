@@ -1,12 +1,12 @@
 // What a filter does with a route or a packet, and when two actions are alike.
 ghost use Rattle.std.specs.Prelude.{◌≡◌};
-ghost use Rattle.supplied.specs.Actions.{same_number, rejected, same_action, route_action_laws};
+ghost use Rattle.supplied.specs.Actions.{rejected, same_action, route_action_laws};
 ghost use Rattle.supplied.specs.Verdicts.{refused, same_verdict, verdict_laws};
 
 use family::ActionKind;
 
 // Reject, or accept with a local preference and a MED, each of which may be absent.
-#[derive(Clone, Copy)]
+#[derive(Clone, Copy, PartialEq, Eq, Debug)]
 pub enum RouteAction {
     Reject,
     Accept {
@@ -15,20 +15,10 @@ pub enum RouteAction {
     },
 }
 
-#[derive(Clone, Copy)]
+#[derive(Clone, Copy, PartialEq, Eq, Debug)]
 pub enum Verdict {
     Reject,
     Accept,
-}
-
-fn same_number(a: Option<u32>, b: Option<u32>) -> bool
-    ensures { result ≡ same_number a b }
-{
-    match (a, b) {
-        (Some(x), Some(y)) => x == y,
-        (None, None) => true,
-        _ => false,
-    }
 }
 
 impl ActionKind for RouteAction {
@@ -47,20 +37,7 @@ impl ActionKind for RouteAction {
     }
 
     fn is_alike(self, other: RouteAction) -> bool {
-        match (self, other) {
-            (
-                RouteAction::Accept {
-                    preference: p,
-                    med: m,
-                },
-                RouteAction::Accept {
-                    preference: q,
-                    med: n,
-                },
-            ) => same_number(p, q) && same_number(m, n),
-            (RouteAction::Reject, RouteAction::Reject) => true,
-            _ => false,
-        }
+        self == other
     }
 }
 
@@ -80,10 +57,6 @@ impl ActionKind for Verdict {
     }
 
     fn is_alike(self, other: Verdict) -> bool {
-        match (self, other) {
-            (Verdict::Accept, Verdict::Accept) => true,
-            (Verdict::Reject, Verdict::Reject) => true,
-            _ => false,
-        }
+        self == other
     }
 }

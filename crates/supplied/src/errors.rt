@@ -4,23 +4,17 @@ ghost use Rattle.supplied.specs.MakeErrors.{number_of};
 
 #[derive(Clone, Copy, PartialEq, Eq, Debug)]
 pub enum MakeError {
-    LengthAboveWidth,
-    AddressBitAfterLength,
-    LengthsOutOfOrder,
-    LowAboveHigh,
-    AboveTop,
+    LengthAboveWidth = 1,
+    AddressBitAfterLength = 2,
+    LengthsOutOfOrder = 3,
+    LowAboveHigh = 4,
+    AboveTop = 5,
 }
 
 impl MakeError {
     pub fn number(self) -> u8
         ensures { result ≡ number_of self }
     {
-        match self {
-            MakeError::LengthAboveWidth => 1,
-            MakeError::AddressBitAfterLength => 2,
-            MakeError::LengthsOutOfOrder => 3,
-            MakeError::LowAboveHigh => 4,
-            MakeError::AboveTop => 5,
-        }
+        self as u8
     }
 }

@@ -2,6 +2,7 @@
 #![tactic(auto)]
 
 mod actions;
+mod edges;
 mod errors;
 mod pairs;
 mod prefixes;

@@ -7,7 +7,7 @@ use crate::spans::{AddressSpan, AsSpan, PortSpan, ProtocolSpan};
 use family::{Edge, Family};
 
 // Two regions, or a point of each.
-#[derive(Clone, Copy)]
+#[derive(Clone, Copy, PartialEq, Eq, Debug)]
 pub struct Pair<A, B> {
     pub first: A,
     pub second: B,
@@ -52,8 +52,7 @@ impl<F: Family, G: Family> Family for Pair<F, G> {
     }
 
     fn axis_count() -> u8 {
-        let sum = F::axis_count() + G::axis_count();
-        sum.min(5)
+        (F::axis_count() + G::axis_count()).min(5)
     }
 
     fn holds_point(self, point: Pair<F::Point, G::Point>) -> bool {
@@ -65,9 +64,10 @@ impl<F: Family, G: Family> Family for Pair<F, G> {
     }
 
     fn meet_with(self, other: Pair<F, G>) -> Option<Pair<F, G>> {
-        let first = self.first.meet_with(other.first)?;
-        let second = self.second.meet_with(other.second)?;
-        Some(Pair { first, second })
+        Some(Pair {
+            first: self.first.meet_with(other.first)?,
+            second: self.second.meet_with(other.second)?,
+        })
     }
 
     // The first part's axes stand before the second's.
@@ -79,19 +79,17 @@ impl<F: Family, G: Family> Family for Pair<F, G> {
     ) -> Pair<F::Point, G::Point> {
         let before = F::axis_count();
         if before + G::axis_count() >= 5 {
-            return point;
-        }
-        if axis <= before {
-            let first = self.first.shift(point.first, axis, edge);
-            return Pair {
-                first,
-                second: point.second,
-            };
-        }
-        let second = self.second.shift(point.second, axis - before, edge);
-        Pair {
-            first: point.first,
-            second,
+            point
+        } else if axis <= before {
+            Pair {
+                first: self.first.shift(point.first, axis, edge),
+                ..point
+            }
+        } else {
+            Pair {
+                second: self.second.shift(point.second, axis - before, edge),
+                ..point
+            }
         }
     }
 }

@@ -5,7 +5,8 @@ mod making;
 mod parts;
 mod questions;
 
-#[derive(Clone, Copy)]
+// The prefix is two numbers, not a Route: the definitions, here and above, read them as the range's own.
+#[derive(Clone, Copy, PartialEq, Eq, Debug)]
 pub struct PrefixRange {
     address: u32,
     length: u8,

@@ -2,10 +2,9 @@
 ghost use Rattle.std.specs.Prelude.{◌≤◌};
 
 mod making;
-mod parts;
 mod questions;
 
-#[derive(Clone, Copy)]
+#[derive(Clone, Copy, PartialEq, Eq, Debug)]
 pub struct Span<const TOP: u32> {
     low: u32,
     high: u32,
@@ -14,7 +13,7 @@ pub struct Span<const TOP: u32> {
 }
 
 // A number of a kind, which its spans may hold.
-#[derive(Clone, Copy)]
+#[derive(Clone, Copy, PartialEq, Eq, Debug)]
 pub struct SpanPoint<const TOP: u32> {
     value: u32,
     ghost top: { value ≤ TOP },

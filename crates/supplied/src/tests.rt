@@ -20,9 +20,7 @@ fn longest_length_is_held(rt: HostRuntime) -> Result<(), Fail> {
 fn overlapping_ranges_meet(rt: HostRuntime) -> Result<(), Fail> {
     let short = PrefixRange::new(0x1e00_0000, 8, 8, 20)?;
     let long = PrefixRange::new(0x1e00_0000, 8, 16, 32)?;
-    let Some(meet) = short.meet_with(long) else {
-        return Err(Fail::new("no meet"));
-    };
+    let meet = short.meet_with(long).ok_or("no meet")?;
     assert_eq!(rt; meet.low(), 16);
     assert_eq!(rt; meet.high(), 20);
     Ok(())
@@ -32,29 +30,29 @@ fn overlapping_ranges_meet(rt: HostRuntime) -> Result<(), Fail> {
 fn lengths_apart_do_not_meet(rt: HostRuntime) -> Result<(), Fail> {
     let short = PrefixRange::new(0x1400_0000, 8, 8, 16)?;
     let long = PrefixRange::new(0x1401_0000, 16, 17, 24)?;
-    assert!(rt; short.meet_with(long).is_none());
+    assert_eq!(rt; short.meet_with(long), None);
     Ok(())
 }
 
 #[test]
 fn faults_are_told_apart(rt: HostRuntime) {
     assert_eq!(rt;
-        PrefixRange::new(0x1400_0000, 8, 7, 8).err(),
-        Some(MakeError::LengthsOutOfOrder)
+        PrefixRange::new(0x1400_0000, 8, 7, 8),
+        Err(MakeError::LengthsOutOfOrder)
     );
     assert_eq!(rt;
-        PrefixRange::new(0x1401_0000, 8, 8, 8).err(),
-        Some(MakeError::AddressBitAfterLength)
+        PrefixRange::new(0x1401_0000, 8, 8, 8),
+        Err(MakeError::AddressBitAfterLength)
     );
-    assert_eq!(rt; PortSpan::new(9, 8).err(), Some(MakeError::LowAboveHigh));
-    assert_eq!(rt; PortSpan::new(8, 65536).err(), Some(MakeError::AboveTop));
+    assert_eq!(rt; PortSpan::new(9, 8), Err(MakeError::LowAboveHigh));
+    assert_eq!(rt; PortSpan::new(8, 65536), Err(MakeError::AboveTop));
 }
 
 #[test]
 fn last_address_is_not_passed(rt: HostRuntime) -> Result<(), Fail> {
     let last = PrefixRange::new(0xffff_ffff, 32, 32, 32)?;
-    let first = <PrefixRange as Family>::first_point();
-    assert!(rt; <PrefixRange as Family>::whole_region().holds_point(first));
+    let first = PrefixRange::first_point();
+    assert!(rt; PrefixRange::whole_region().holds_point(first));
     let host = last.shift(first, 1, Edge::Near);
     let there = last.shift(host, 2, Edge::Near);
     assert!(rt; last.holds_point(there));
@@ -73,11 +71,13 @@ fn top_is_not_passed(rt: HostRuntime) -> Result<(), Fail> {
     Ok(())
 }
 
+type TwoPackets = Pair<Packet, Packet>;
+
 #[test]
 fn more_than_four_axes_leave_the_point(rt: HostRuntime) {
-    let whole = <Pair<Packet, Packet>>::whole_region();
-    let first = <Pair<Packet, Packet>>::first_point();
-    assert_eq!(rt; <Pair<Packet, Packet>>::axis_count(), 5);
+    let whole = TwoPackets::whole_region();
+    let first = TwoPackets::first_point();
+    assert_eq!(rt; TwoPackets::axis_count(), 5);
     assert_eq!(rt; Packet::axis_count(), 3);
     let moved = whole.shift(first, 1, Edge::Far);
     assert_eq!(rt; moved.first.first.value(), 0);

@@ -4,24 +4,19 @@ ghost use Rattle.supplied.specs.MadeRanges.{made_range};
 
 use super::PrefixRange;
 use crate::errors::MakeError;
-use crate::prefixes::bits_after;
+use crate::routes::Route;
 
 impl PrefixRange {
     pub fn new(address: u32, length: u8, low: u8, high: u8) -> Result<PrefixRange, MakeError>
         ensures { result ≡ made_range address length low high }
     {
-        if length > 32 {
-            return Err(MakeError::LengthAboveWidth);
-        }
-        if bits_after(address, length) != 0 {
-            return Err(MakeError::AddressBitAfterLength);
-        }
+        let prefix = Route::new(address, length)?;
         if low < length || high < low || high > 32 {
             return Err(MakeError::LengthsOutOfOrder);
         }
         Ok(PrefixRange {
-            address,
-            length,
+            address: prefix.address(),
+            length: prefix.length(),
             low,
             high,
         })

@@ -5,7 +5,7 @@ ghost use Rattle.supplied.specs.PrefixValues.{range_values, route_values};
 ghost use Rattle.supplied.specs.RangeLaws.{range_laws};
 
 use super::PrefixRange;
-use crate::prefixes::same_prefix;
+use crate::edges::to_edge;
 use crate::routes::Route;
 use family::{Edge, Family};
 
@@ -46,16 +46,14 @@ impl Family for PrefixRange {
     }
 
     fn holds_point(self, point: Route) -> bool {
-        self.low <= point.length()
-            && point.length() <= self.high
-            && same_prefix(point.address(), self.address, self.length)
+        self.low <= point.length() && point.length() <= self.high && self.covers(point.address())
     }
 
     fn is_inside(self, other: PrefixRange) -> bool {
         other.low <= self.low
             && self.high <= other.high
             && other.length <= self.length
-            && same_prefix(self.address, other.address, other.length)
+            && other.covers(self.address)
     }
 
     fn meet_with(self, other: PrefixRange) -> Option<PrefixRange> {
@@ -69,8 +67,16 @@ impl Family for PrefixRange {
     // Axis 1 is the length, axis 2 the address.
     fn shift(self, point: Route, axis: u8, edge: Edge) -> Route {
         match axis {
-            1 => Route::cut(point.address(), self.shifted_length(point.length(), edge)),
-            2 => Route::cut(self.shifted_address(point.address(), edge), point.length()),
+            1 => {
+                let (low, high) = (u32::from(self.low), u32::from(self.high));
+                let length = to_edge(32, low, high, edge, u32::from(point.length()));
+                Route::cut(point.address(), length as u8)
+            }
+            2 => {
+                let last = self.last_address();
+                let address = to_edge(u32::MAX, self.address, last, edge, point.address());
+                Route::cut(address, point.length())
+            }
             _ => point,
         }
     }

@@ -23,7 +23,8 @@ impl Route {
     // The address with every bit after the length made zero.
     pub(crate) fn cut(address: u32, length: u8) -> Route
         requires { length ≤ 32 }
-        ensures { (result.address ≡ cut_down (2 ^ (32 - length)) address) × (result.length ≡ length) }
+        ensures address { result.address ≡ cut_down (2 ^ (32 - length)) address }
+        ensures length { result.length ≡ length }
     {
         let address = address - bits_after(address, length);
         Route { address, length }

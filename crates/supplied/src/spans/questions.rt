@@ -3,6 +3,7 @@ ghost use Rattle.supplied.specs.Spans.{whole_span, first_number, span_holds, spa
 ghost use Rattle.supplied.specs.SpanLaws.{span_laws};
 
 use super::{Span, SpanPoint};
+use crate::edges::to_edge;
 use family::{Edge, Family};
 
 impl<const TOP: u32> Family for Span<TOP> {
@@ -45,12 +46,7 @@ impl<const TOP: u32> Family for Span<TOP> {
     }
 
     fn meet_with(self, other: Span<TOP>) -> Option<Span<TOP>> {
-        let low = self.low.max(other.low);
-        let high = self.high.min(other.high);
-        if low > high {
-            return None;
-        }
-        Some(Span { low, high })
+        Span::new(self.low.max(other.low), self.high.min(other.high)).ok()
     }
 
     // The one axis is the number itself.
@@ -58,7 +54,8 @@ impl<const TOP: u32> Family for Span<TOP> {
         if axis != 1 {
             return point;
         }
-        let value = self.shifted_number(point.value, edge);
-        SpanPoint { value }
+        SpanPoint {
+            value: to_edge(TOP, self.low, self.high, edge, point.value),
+        }
     }
 }
