@@ -1,3 +1,4 @@
+pub mod Decided
 pub mod Edited
 pub mod Loaded
 pub mod Shifted

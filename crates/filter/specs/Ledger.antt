@@ -14,6 +14,10 @@ abbrev pub if_done : {X : Type 0} → Result (Unit {0}) EditError → X → X �
 if_done (Ok done) new old = new
 if_done (Err refused) new old = old
 
+-- to each region the one answer is what the function gives
+abbrev pub AnswersBy : {R : Type 0} → (R → Bool) → (R → Bool → Type 0) → Type 0
+AnswersBy passes answers = (r : _) (b : Bool) → answers r b → b ≡ passes r
+
 module _ {R A : Type 0} where
   abbrev pub with_clauses : View R A → List (Clause R A) → View R A
   with_clauses v clauses = record { clauses = clauses; default = v.default; room = v.room }
@@ -48,9 +52,17 @@ module _ {R A : Type 0} where
   abbrev pub holding : {P : Type 0} → (R → P → Bool) → P → Clause R A → Bool
   holding holds p c = holds c.region p
 
+  -- whether a clause's region passes a test
+  abbrev pub passing : (R → Bool) → Clause R A → Bool
+  passing passes c = passes c.region
+
+  -- the place of the first clause whose region passes, and its action; or the place behind the last, and the default
+  abbrev pub decision : (R → Bool) → View R A → ℕ × A
+  decision passes v = (first_where (passing passes) v.clauses, action_at v.clauses v.default (first_where (passing passes) v.clauses))
+
   -- the place that decides a point, and its action
   abbrev pub match_of : {P : Type 0} → (R → P → Bool) → View R A → P → ℕ × A
-  match_of holds v p = (first_where (holding holds p) v.clauses, action_at v.clauses v.default (first_where (holding holds p) v.clauses))
+  match_of holds v p = decision (λ r. holds r p) v
 
   -- no clause before the place holds the point, and the one at it does, unless it is the place behind the last
   pub record FirstHolding {P : Type 0} (holds : R → P → Bool) (clauses : List (Clause R A)) (p : P) (place : ℕ) : Type 0 where
