@@ -15,20 +15,10 @@ use records::{Written, WrittenAction};
 
 #[derive(Drop)]
 pub struct Sealed<'a, R, A> {
-    table: Table<'a, R, A>,
+    pub(crate) table: Table<'a, R, A>,
 }
 
 impl<'a, R: Family, A: ActionKind> Sealed<'a, R, A> {
-    pub(crate) fn over(places: &'a mut [Clause<R, A>], count: usize) -> Sealed<'a, R, A>
-        ensures counted { result.table.count ≡ count }
-        ensures memory { result.table.places.now ≡ places.old }
-        ensures lender { result.table.places.ghost_name ≡ places.entry.ghost_name }
-    {
-        Sealed {
-            table: Table { places, count },
-        }
-    }
-
     // The clauses in their order.
     pub fn clauses(&self) -> &[Clause<R, A>]
         ensures { result.now ≡ (sealed_view A.reject self.now).clauses }
