@@ -6,15 +6,27 @@ ghost use Rattle.filter.specs.Ledger.{if_done, insert_answer, after_insert, plac
 ghost use Rattle.filter.specs.States.{draft_view, sealed_view};
 
 use crate::errors::EditError;
+use crate::places::{insert_usable, put_last, remove_at, replace_at};
 use crate::sealed::Sealed;
 use crate::table::Table;
 use family::{ActionKind, Clause, Family};
 use fields::Fault;
+use filterfile::read_file;
 use records::{Recorded, RecordedAction};
 
 #[derive(Drop)]
 pub struct Draft<'a, R, A> {
     table: Table<'a, R, A>,
+}
+
+// A place that holds a default: its region is not read.
+fn default_place<R: Family, A: ActionKind>(action: A) -> Clause<R, A>
+    ensures { result ≡ record { region = R.whole; action = action } }
+{
+    Clause {
+        region: R::whole_region(),
+        action,
+    }
 }
 
 impl<'a, R: Family, A: ActionKind> Draft<'a, R, A> {
@@ -24,8 +36,9 @@ impl<'a, R: Family, A: ActionKind> Draft<'a, R, A> {
         ensures memory { result.table.places.now ≡ with_default R.whole places.old A.reject }
         ensures lender { result.table.places.ghost_name ≡ places.entry.ghost_name }
     {
+        put_last(places, default_place(A::rejecting()));
         Draft {
-            table: Table::new(places),
+            table: Table { places, count: 0 },
         }
     }
 
@@ -36,7 +49,10 @@ impl<'a, R: Family, A: ActionKind> Draft<'a, R, A> {
         ensures memory { self.new.table.places.now ≡ if_done result (inserted_places self.old.table.places.now (length (draft_view A.reject self.old).clauses) place clause) self.old.table.places.now }
         ensures lender { self.new.table.places.ghost_name ≡ self.old.table.places.ghost_name }
     {
-        self.table.insert(place, clause)
+        let count = self.table.len();
+        insert_usable(self.table.places, count, place, clause)?;
+        self.table.count = count + 1;
+        Ok(())
     }
 
     // Takes the clause at a place out.
@@ -46,7 +62,10 @@ impl<'a, R: Family, A: ActionKind> Draft<'a, R, A> {
         ensures memory { self.new.table.places.now ≡ if_done result (removed_places self.old.table.places.now (length (draft_view A.reject self.old).clauses) place) self.old.table.places.now }
         ensures lender { self.new.table.places.ghost_name ≡ self.old.table.places.ghost_name }
     {
-        self.table.remove(place)
+        let count = self.table.len();
+        remove_at(self.table.places, count, place)?;
+        self.table.count = count - 1;
+        Ok(())
     }
 
     // Changes the clause at a place.
@@ -56,7 +75,8 @@ impl<'a, R: Family, A: ActionKind> Draft<'a, R, A> {
         ensures memory { self.new.table.places.now ≡ if_done result (slice_set self.old.table.places.now place clause) self.old.table.places.now }
         ensures lender { self.new.table.places.ghost_name ≡ self.old.table.places.ghost_name }
     {
-        self.table.replace(place, clause)
+        let count = self.table.len();
+        replace_at(self.table.places, count, place, clause)
     }
 
     // Changes the default.
@@ -66,7 +86,11 @@ impl<'a, R: Family, A: ActionKind> Draft<'a, R, A> {
         ensures memory { self.new.table.places.now ≡ if_done result (with_default R.whole self.old.table.places.now action) self.old.table.places.now }
         ensures lender { self.new.table.places.ghost_name ≡ self.old.table.places.ghost_name }
     {
-        self.table.set_default(action)
+        if self.table.places.len() == 0 {
+            return Err(EditError::NoPlaceLeft);
+        }
+        put_last(self.table.places, default_place(action));
+        Ok(())
     }
 
     // The same filter, sealed.
@@ -75,9 +99,7 @@ impl<'a, R: Family, A: ActionKind> Draft<'a, R, A> {
         ensures memory { result.table.places.now ≡ self.entry.table.places.now }
         ensures lender { result.table.places.ghost_name ≡ self.entry.table.places.ghost_name }
     {
-        let Draft { table } = self;
-        let Table { places, count } = table;
-        Sealed::over(places, count)
+        Sealed { table: self.table }
     }
 }
 
@@ -89,6 +111,9 @@ impl<'a, R: Recorded, A: RecordedAction> Draft<'a, R, A> {
         ensures memory { self.new.table.places.now ≡ loaded_places R.Family.whole self.old.table.places.now (file_of R.Recorded.reads A.RecordedAction.reads code (length self.old.table.places.now) bytes.now) }
         ensures lender { self.new.table.places.ghost_name ≡ self.old.table.places.ghost_name }
     {
-        self.table.load(code, bytes)
+        let (count, default) = read_file(code, bytes, self.table.places)?;
+        put_last(self.table.places, default_place(default));
+        self.table.count = count;
+        Ok(())
     }
 }

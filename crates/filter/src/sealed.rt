@@ -1,12 +1,10 @@
 // A sealed filter: it is matched, compared and written, and takes no edit.
-ghost use Rattle.std.specs.Prelude.{◌≡◌, ℕ, ◌<◌, List, length, Ok};
+ghost use Rattle.std.specs.Prelude.{◌≡◌, ℕ, ◌<◌, Bool, List, length, Ok};
 ghost use Rattle.buffers.specs.Buffers.{written};
-ghost use Rattle.family.specs.Clauses.{action_at};
-ghost use Rattle.family.specs.Lists.{first_where};
 ghost use Rattle.fields.specs.Fields.{Octets};
 ghost use Rattle.filterfile.specs.Files.{file_of};
 ghost use Rattle.filterfile.specs.WrittenFiles.{answer_in};
-ghost use Rattle.filter.specs.Ledger.{holding, match_of, FirstHolding};
+ghost use Rattle.filter.specs.Ledger.{AnswersBy, decision, match_of, FirstHolding};
 ghost use Rattle.filter.specs.States.{sealed_view};
 ghost use Rattle.filter.specs.Views.{file_of_view};
 
@@ -17,20 +15,10 @@ use records::{Written, WrittenAction};
 
 #[derive(Drop)]
 pub struct Sealed<'a, R, A> {
-    table: Table<'a, R, A>,
+    pub(crate) table: Table<'a, R, A>,
 }
 
 impl<'a, R: Family, A: ActionKind> Sealed<'a, R, A> {
-    pub(crate) fn over(places: &'a mut [Clause<R, A>], count: usize) -> Sealed<'a, R, A>
-        ensures counted { result.table.count ≡ count }
-        ensures memory { result.table.places.now ≡ places.old }
-        ensures lender { result.table.places.ghost_name ≡ places.entry.ghost_name }
-    {
-        Sealed {
-            table: Table { places, count },
-        }
-    }
-
     // The clauses in their order.
     pub fn clauses(&self) -> &[Clause<R, A>]
         ensures { result.now ≡ (sealed_view A.reject self.now).clauses }
@@ -44,12 +32,24 @@ impl<'a, R: Family, A: ActionKind> Sealed<'a, R, A> {
         self.table.default()
     }
 
+    // The place of the first clause whose region passes the test, with its action, or the number of clauses with the default.
+    pub fn decided_by<T: Fn(R) -> bool>(&self, test: T) -> (usize, A)
+        requires { T.IsAlwaysCallable test }
+        ensures { (passes : R → Bool) → AnswersBy passes (T.post test) → result ≡ decision passes (sealed_view A.reject self.now) }
+    {
+        let clauses = self.table.clauses();
+        match clauses.iter().position(|clause| test(clause.region)) {
+            Some(place) => (place, clauses[place].action),
+            None => (clauses.len(), self.table.default()),
+        }
+    }
+
     // The place that decides a point, and its action: the first clause whose region holds the point, or the default.
     pub fn first_match(&self, point: R::Point) -> (usize, A)
         ensures answer { result ≡ match_of R.holds (sealed_view A.reject self.now) point }
         ensures first { FirstHolding R.holds (sealed_view A.reject self.now).clauses point result.0 }
     {
-        decide(self.table.clauses(), self.table.default(), point)
+        self.decided_by(|region| region.holds_point(point))
     }
 }
 
@@ -64,21 +64,4 @@ impl<'a, R: Written, A: WrittenAction> Sealed<'a, R, A> {
     {
         write_file(code, self.table.clauses(), self.table.default(), out)
     }
-}
-
-// The first of the clauses whose region holds the point with its action, or the number of clauses with the default.
-fn decide<R: Family, A: ActionKind>(
-    clauses: &[Clause<R, A>],
-    default: A,
-    point: R::Point,
-) -> (usize, A)
-    ensures place { result.0 ≡ first_where (holding R.holds point) clauses.now }
-    ensures action { result.1 ≡ action_at clauses.now default (first_where (holding R.holds point) clauses.now) }
-{
-    for (place, clause) in clauses.iter().enumerate() {
-        if clause.region.holds_point(point) {
-            return (place, clause.action);
-        }
-    }
-    (clauses.len(), default)
 }
