@@ -30,11 +30,6 @@ abbrev pub outcome_of : {X : Type 0} → Read X → Result X RecordFault
 outcome_of (Ok p) = Ok p.0
 outcome_of (Err fault) = Err fault
 
--- the bytes behind what was read from these; a fault takes none of them
-abbrev pub rest_of : {X : Type 0} → List ℕ → Read X → List ℕ
-rest_of bytes (Ok p) = p.1
-rest_of bytes (Err fault) = bytes
-
 -- whether the region that was read holds a point
 abbrev pub held_in : {R P : Type 0} → (R → P → Bool) → Result R RecordFault → P → Bool
 held_in holds (Ok region) point = holds region point

@@ -35,10 +35,10 @@ action_field_lem : (n : ActionNumbers) (place : ℕ) → Takes (same_width 4 pla
 action_field_lem n place = then_made 4 (field_of 4) _ (field_takes 4)
 
 span_field_lem : (TOP : ℕ) (n : SpanNumbers TOP) (place : ℕ) → Takes (same_width (span_width TOP) place) (span_field TOP n place)
-span_field_lem TOP n zero = then_made (span_width TOP) (given_of (span_width TOP) n.low) _ (given_takes (span_width TOP) n.low)
+span_field_lem TOP n zero = then_made (span_width TOP) (given_of (span_width TOP) n.low.0) _ (given_takes (span_width TOP) n.low.0)
 span_field_lem TOP n (suc place) =
     rw (ne_eqb (suc place) 0 (λ e. omega arith))
-    (then_made (span_width TOP) (given_of (span_width TOP) n.high) _ (given_takes (span_width TOP) n.high))
+    (then_made (span_width TOP) (given_of (span_width TOP) n.high.0) _ (given_takes (span_width TOP) n.high.0))
 
 verdict_field : (n : VerdictNumbers) (place : ℕ) → Takes (same_width 0 place) (verdict_layout.taken n place)
 verdict_field n place bytes x rest same = omega (arith, ap length (same_parts same).1)

@@ -14,58 +14,46 @@ use buffers::Output;
 use fields::{Layout, Number, RecordFault, given, given_bit, put_given, read_record};
 use supplied::{MakeError, Span, SpanPoint};
 
-// The ends so far: one not yet read stands at its absent value.
-#[derive(Clone, Copy)]
-pub struct SpanNumbers<const TOP: u32> {
-    pub low: u32,
-    pub high: u32,
-}
-
 // An end, which has as many bytes as its top: one, two or four.
 #[derive(Clone, Copy, PartialEq)]
-pub struct End<const TOP: u32> {
-    pub value: u32,
-}
+pub struct End<const TOP: u32>(pub u32);
 
 impl<const TOP: u32> Number for End<TOP> {
     ghost width = { span_width TOP };
 
-    ghost value = { λ end. end.value };
+    ghost value = { λ end. end.0 };
 
     ghost by_value = { λ a b. refl };
 
     fn read(bytes: &[u8]) -> Result<(End<TOP>, &[u8]), RecordFault> {
         if TOP < 256 {
             let (byte, rest) = u8::read(bytes)?;
-            return Ok((
-                End {
-                    value: u32::from(byte),
-                },
-                rest,
-            ));
+            return Ok((End(u32::from(byte)), rest));
         }
         if TOP < 65_536 {
             let (number, rest) = u16::read(bytes)?;
-            return Ok((
-                End {
-                    value: u32::from(number),
-                },
-                rest,
-            ));
+            return Ok((End(u32::from(number)), rest));
         }
-        let (value, rest) = u32::read(bytes)?;
-        Ok((End { value }, rest))
+        let (word, rest) = u32::read(bytes)?;
+        Ok((End(word), rest))
     }
 
     fn put(self, out: &mut Output) {
         if TOP < 256 {
-            ((self.value % 256) as u8).put(out);
+            ((self.0 % 256) as u8).put(out);
         } else if TOP < 65_536 {
-            ((self.value % 65_536) as u16).put(out);
+            ((self.0 % 65_536) as u16).put(out);
         } else {
-            self.value.put(out);
+            self.0.put(out);
         }
     }
+}
+
+// The ends so far: one not yet read stands at its absent value.
+#[derive(Clone, Copy)]
+pub struct SpanNumbers<const TOP: u32> {
+    pub low: End<TOP>,
+    pub high: End<TOP>,
 }
 
 impl<const TOP: u32> Layout for SpanNumbers<TOP> {
@@ -74,7 +62,10 @@ impl<const TOP: u32> Layout for SpanNumbers<TOP> {
     ghost layout = { span_layout TOP };
 
     fn absent() -> SpanNumbers<TOP> {
-        SpanNumbers { low: 0, high: TOP }
+        SpanNumbers {
+            low: End(0),
+            high: End(TOP),
+        }
     }
 
     fn is_defined(map: u8) -> bool {
@@ -91,27 +82,15 @@ impl<const TOP: u32> Layout for SpanNumbers<TOP> {
         bytes: &[u8],
     ) -> Result<(SpanNumbers<TOP>, &[u8]), RecordFault> {
         if place == 0 {
-            let (low, rest) = given(bytes, End::<TOP> { value: self.low })?;
-            return Ok((
-                SpanNumbers {
-                    low: low.value,
-                    ..self
-                },
-                rest,
-            ));
+            let (low, rest) = given(bytes, self.low)?;
+            return Ok((SpanNumbers { low, ..self }, rest));
         }
-        let (high, rest) = given(bytes, End::<TOP> { value: self.high })?;
-        Ok((
-            SpanNumbers {
-                high: high.value,
-                ..self
-            },
-            rest,
-        ))
+        let (high, rest) = given(bytes, self.high)?;
+        Ok((SpanNumbers { high, ..self }, rest))
     }
 
     fn make(self, _map: u8) -> Result<Span<TOP>, MakeError> {
-        Span::new(self.low, self.high)
+        Span::new(self.low.0, self.high.0)
     }
 }
 
@@ -136,12 +115,11 @@ impl<const TOP: u32> Written for Span<TOP> {
     ghost undoing = { span_undoing TOP };
 
     fn write(self, out: &mut Output) {
-        let low = End::<TOP> { value: self.low() };
-        let high = End::<TOP> { value: self.high() };
-        let first = End { value: 0 };
-        let last = End { value: TOP };
-        out.put_byte(given_bit(first, low) + 2 * given_bit(last, high));
-        put_given(low, first, out);
-        put_given(high, last, out);
+        let absent: SpanNumbers<TOP> = SpanNumbers::absent();
+        let low = End(self.low());
+        let high = End(self.high());
+        out.put_byte(given_bit(absent.low, low) + 2 * given_bit(absent.high, high));
+        put_given(low, absent.low, out);
+        put_given(high, absent.high, out);
     }
 }
