@@ -9,8 +9,8 @@ use Rattle.family.specs.declared.clauses.Clause.{Clause}
 use Rattle.filterfile.specs.Files.{usable_places}
 use Rattle.filter.specs.declared.errors.EditError.{EditError}
 use Rattle.filter.specs.Ledger.{if_done, insert_at_answer, at_answer, with_clauses, insert_answer, place_answer, default_answer, after_insert, after_remove, after_replace, after_default, inserted_places, removed_places}
-use Rattle.filter.proofs.Fitting.{insert_fits, at_fits}
 use Rattle.filter.specs.Views.{View, default_in, clauses_in, view_of, with_default}
+use Rattle.filter.proofs.Fitting.{insert_fits, at_fits}
 use Rattle.filter.proofs.Viewed.{same_view, room-kept, default-put}
 
 module _ {R A : Type 0} (reject : A) (places : List (Clause R A)) where
@@ -39,44 +39,6 @@ module _ {R A : Type 0} (reject : A) (places : List (Clause R A)) where
       let all : min n (usable_places (length (front ++ behind))) ≡ n = omega arith in
       same_view (ap (λ k. take k (front ++ behind)) all ∙ take_at front behind n size) same long
 
-  inserted : (count m place : ℕ) (c : Clause R A) → m ≡ min count (usable_places (length places)) → place ≤ m → m < usable_places (length places) → view_of reject (inserted_places places m place c) (m + 1) ≡ with_clauses (view_of reject places count) (insert (clauses_in places count) place c)
-  inserted count m place c is low free =
-      let front = insert (take m places) place c in
-      let upto : length (take m places) ≡ m = omega (arith, length-take m places) in
-      let size : length front ≡ m + 1 = length-insert (take m places) place c (omega arith) ∙ ap (λ k. k + 1) upto in
-      let long : length (front ++ drop (m + 1) places) ≡ length places = omega (arith, length-append front (drop (m + 1) places), length-drop (m + 1) places) in
-      fronted front (drop (m + 1) places) (m + 1) count size (omega arith) long (default_behind front (m + 1) size (omega arith))
-      ∙ ap (λ k. with_clauses (view_of reject places count) (insert (take k places) place c)) is
-
-  removed : (count m place : ℕ) → m ≡ min count (usable_places (length places)) → place < m → view_of reject (removed_places places m place) (m - 1) ≡ with_clauses (view_of reject places count) (remove (clauses_in places count) place)
-  removed count m place is low =
-      let front = remove (take m places) place in
-      let gone = take 1 (drop place places) in
-      let upto : length (take m places) ≡ m = omega (arith, length-take m places) in
-      let size : length front ≡ m - 1 = omega (arith, length-remove (take m places) place (omega arith)) in
-      let one : length gone ≡ 1 = omega (arith, length-take 1 (drop place places), length-drop place places) in
-      let both : length (front ++ gone) ≡ m = omega (arith, length-append front gone) in
-      let grouped = append_assoc front gone (drop m places) in
-      let long : length (front ++ (gone ++ drop m places)) ≡ length places = omega (arith, length-append front (gone ++ drop m places), length-append gone (drop m places), length-drop m places) in
-      fronted front (gone ++ drop m places) (m - 1) count size (omega arith) long (ap (default_in reject) (sym grouped) ∙ default_behind (front ++ gone) m both (omega arith))
-      ∙ ap (λ k. with_clauses (view_of reject places count) (remove (take k places) place)) is
-
-  replaced : (count m place : ℕ) (c : Clause R A) → m ≡ min count (usable_places (length places)) → place < m → view_of reject (set places place c) count ≡ with_clauses (view_of reject places count) (set (clauses_in places count) place c)
-  unfolding act
-  replaced count m place c is low =
-      let last = length places - 1 in
-      let long = length-set places place c in
-      let upto : length (take m places) ≡ m = omega (arith, length-take m places) in
-      let reach : place < length (take m places) = omega arith in
-      let other : last ≡ place → ⊥ = λ same. omega arith in
-      let front : set places place c ≡ set (take m places) place c ++ drop m places = ap (λ l. set l place c) (sym (take-append-drop m places)) ∙ set-append_left (take m places) (drop m places) place c reach in
-      let size : length (set (take m places) place c) ≡ m = length-set (take m places) place c ∙ upto in
-      let counted : min count (usable_places (length (set places place c))) ≡ m = omega arith in
-      same_view
-      (ap (λ k. take k (set places place c)) counted ∙ ap (take m) front ∙ take_at (set (take m places) place c) (drop m places) m size ∙ ap (λ k. set (take k places) place c) is)
-      (ap (λ k. get_or (map act (set places place c)) (k - 1) reject) long ∙ ap (λ l. get_or l last reject) (map-set act places place c) ∙ get_or-set_other (map act places) place last (act c) reject other)
-      long
-
   redefaulted : (whole : R) (count : ℕ) (action : A) → 0 < length places → view_of reject (with_default whole places action) count ≡ record { clauses = clauses_in places count; default = action; room = length places }
   redefaulted whole count action some =
       let put : Clause R A = record { region = whole; action = action } in
@@ -89,45 +51,83 @@ module _ {R A : Type 0} (reject : A) (places : List (Clause R A)) where
       (default-put whole places action reject some)
       size
 
-  counted : (count : ℕ) → length (clauses_in places count) ≡ min count (usable_places (length places))
-  counted count = omega (arith, length-take (min count (usable_places (length places))) places)
-
-  -- the view after an edit of the first m places that was done
-  module _ (count m place : ℕ) (is : m ≡ min count (usable_places (length places))) where
-    abbrev v : View R A
-    v = view_of reject places count
-
-    size : m ≡ length (clauses_in places count)
-    size = is ∙ sym (counted count)
-
-    pub view-inserted : (c : Clause R A) (after : List (Clause R A)) (r : Result (Unit {0}) EditError) → Ok tt ≡ r → r ≡ insert_at_answer m (usable_places (length places)) place → after ≡ if_done r (insert (take m places) place c ++ drop (m + 1) places) places → view_of reject after (m + 1) ≡ after_insert v place c
-    view-inserted c after r done told put =
-        let fit = insert_fits m (usable_places (length places)) place (done ∙ told) in
-        let answer : Ok tt ≡ insert_answer v place = done ∙ told ∙ ap (λ k. insert_at_answer k (usable_places (length places)) place) size in
-        ap (λ l. view_of reject l (m + 1)) (put ∙ ap (λ o. if_done o (insert (take m places) place c ++ drop (m + 1) places) places) (sym done))
-        ∙ inserted count m place c is fit.0 fit.1
-        ∙ ap (λ o. if_done o (with_clauses v (insert (clauses_in places count) place c)) v) answer
-
-    pub view-removed : (after : List (Clause R A)) (r : Result (Unit {0}) EditError) → Ok tt ≡ r → r ≡ at_answer m place → after ≡ if_done r (removed_places places m place) places → view_of reject after (m - 1) ≡ after_remove v place
-    view-removed after r done told put =
-        let answer : Ok tt ≡ place_answer v place = done ∙ told ∙ ap (λ k. at_answer k place) size in
-        ap (λ l. view_of reject l (m - 1)) (put ∙ ap (λ o. if_done o (removed_places places m place) places) (sym done))
-        ∙ removed count m place is (at_fits m place (done ∙ told))
-        ∙ ap (λ o. if_done o (with_clauses v (remove (clauses_in places count) place)) v) answer
-
-    pub view-replaced : (c : Clause R A) (after : List (Clause R A)) (r : Result (Unit {0}) EditError) → r ≡ at_answer m place → after ≡ if_done r (set places place c) places → view_of reject after count ≡ after_replace v place c
-    view-replaced c after (Ok done) told put =
-        let answer : Ok tt ≡ place_answer v place = told ∙ ap (λ k. at_answer k place) size in
-        ap (λ l. view_of reject l count) put
-        ∙ replaced count m place c is (at_fits m place told)
-        ∙ ap (λ o. if_done o (with_clauses v (set (clauses_in places count) place c)) v) answer
-    view-replaced c after (Err refused) told put =
-        let answer : Err refused ≡ place_answer v place = told ∙ ap (λ k. at_answer k place) size in
-        ap (λ l. view_of reject l count) put
-        ∙ ap (λ o. if_done o (with_clauses v (set (clauses_in places count) place c)) v) answer
-
   pub view-redefaulted : (whole : R) (count : ℕ) (action : A) → 0 < length places → view_of reject (with_default whole places action) count ≡ after_default (view_of reject places count) action
   view-redefaulted whole count action some =
       let v = view_of reject places count in
       let answer : Ok tt ≡ default_answer v = sym (cond-true (ltb 0 v.room) _ _ (lt-ltb _ _ some)) in
       redefaulted whole count action some ∙ ap (λ o. if_done o (record { clauses = v.clauses; default = action; room = v.room }) v) answer
+
+  -- an edit of the clauses, which are so many
+  module _ (count : ℕ) (fits : count ≤ usable_places (length places)) where
+    abbrev v : View R A
+    v = view_of reject places count
+
+    all : count ≡ min count (usable_places (length places))
+    all = omega (arith, fits)
+
+    upto : length (take count places) ≡ count
+    upto = omega (arith, fits, length-take count places)
+
+    size : count ≡ length (clauses_in places count)
+    size = sym (ap (λ k. length (take k places)) (sym all) ∙ upto)
+
+    inserted : (place : ℕ) (c : Clause R A) → place ≤ count → count < usable_places (length places) → view_of reject (inserted_places places count place c) (count + 1) ≡ with_clauses v (insert (clauses_in places count) place c)
+    inserted place c low free =
+        let front = insert (take count places) place c in
+        let long : length front ≡ count + 1 = length-insert (take count places) place c (omega (arith, upto)) ∙ ap (λ k. k + 1) upto in
+        let whole : length (front ++ drop (count + 1) places) ≡ length places = omega (arith, length-append front (drop (count + 1) places), length-drop (count + 1) places) in
+        fronted front (drop (count + 1) places) (count + 1) count long (omega arith) whole (default_behind front (count + 1) long (omega arith))
+        ∙ ap (λ k. with_clauses v (insert (take k places) place c)) all
+
+    removed : (place : ℕ) → place < count → view_of reject (removed_places places count place) (count - 1) ≡ with_clauses v (remove (clauses_in places count) place)
+    removed place low =
+        let front = remove (take count places) place in
+        let gone = take 1 (drop place places) in
+        let long : length front ≡ count - 1 = omega (arith, upto, length-remove (take count places) place (omega (arith, upto))) in
+        let one : length gone ≡ 1 = omega (arith, fits, length-take 1 (drop place places), length-drop place places) in
+        let both : length (front ++ gone) ≡ count = omega (arith, length-append front gone) in
+        let grouped = append_assoc front gone (drop count places) in
+        let whole : length (front ++ (gone ++ drop count places)) ≡ length places = omega (arith, fits, length-append front (gone ++ drop count places), length-append gone (drop count places), length-drop count places) in
+        fronted front (gone ++ drop count places) (count - 1) count long (omega (arith, fits)) whole (ap (default_in reject) (sym grouped) ∙ default_behind (front ++ gone) count both (omega (arith, fits)))
+        ∙ ap (λ k. with_clauses v (remove (take k places) place)) all
+
+    replaced : (place : ℕ) (c : Clause R A) → place < count → view_of reject (set places place c) count ≡ with_clauses v (set (clauses_in places count) place c)
+    unfolding act
+    replaced place c low =
+        let last = length places - 1 in
+        let whole = length-set places place c in
+        let reach : place < length (take count places) = omega (arith, upto) in
+        let other : last ≡ place → ⊥ = λ same. omega (arith, fits) in
+        let front : set places place c ≡ set (take count places) place c ++ drop count places = ap (λ l. set l place c) (sym (take-append-drop count places)) ∙ set-append_left (take count places) (drop count places) place c reach in
+        let long : length (set (take count places) place c) ≡ count = length-set (take count places) place c ∙ upto in
+        let counted : min count (usable_places (length (set places place c))) ≡ count = omega (arith, fits) in
+        same_view
+        (ap (λ k. take k (set places place c)) counted ∙ ap (take count) front ∙ take_at (set (take count places) place c) (drop count places) count long ∙ ap (λ k. set (take k places) place c) all)
+        (ap (λ k. get_or (map act (set places place c)) (k - 1) reject) whole ∙ ap (λ l. get_or l last reject) (map-set act places place c) ∙ get_or-set_other (map act places) place last (act c) reject other)
+        whole
+
+    pub view-inserted : (place : ℕ) (c : Clause R A) (after : List (Clause R A)) (r : Result (Unit {0}) EditError) → Ok tt ≡ r → r ≡ insert_at_answer count (usable_places (length places)) place → after ≡ if_done r (inserted_places places count place c) places → view_of reject after (count + 1) ≡ after_insert v place c
+    view-inserted place c after r done told put =
+        let fit = insert_fits count (usable_places (length places)) place (done ∙ told) in
+        let answer : Ok tt ≡ insert_answer v place = done ∙ told ∙ ap (λ k. insert_at_answer k (usable_places (length places)) place) size in
+        ap (λ l. view_of reject l (count + 1)) (put ∙ ap (λ o. if_done o (inserted_places places count place c) places) (sym done))
+        ∙ inserted place c fit.0 fit.1
+        ∙ ap (λ o. if_done o (with_clauses v (insert (clauses_in places count) place c)) v) answer
+
+    pub view-removed : (place : ℕ) (after : List (Clause R A)) (r : Result (Unit {0}) EditError) → Ok tt ≡ r → r ≡ at_answer count place → after ≡ if_done r (removed_places places count place) places → view_of reject after (count - 1) ≡ after_remove v place
+    view-removed place after r done told put =
+        let answer : Ok tt ≡ place_answer v place = done ∙ told ∙ ap (λ k. at_answer k place) size in
+        ap (λ l. view_of reject l (count - 1)) (put ∙ ap (λ o. if_done o (removed_places places count place) places) (sym done))
+        ∙ removed place (at_fits count place (done ∙ told))
+        ∙ ap (λ o. if_done o (with_clauses v (remove (clauses_in places count) place)) v) answer
+
+    pub view-replaced : (place : ℕ) (c : Clause R A) (after : List (Clause R A)) (r : Result (Unit {0}) EditError) → r ≡ at_answer count place → after ≡ if_done r (set places place c) places → view_of reject after count ≡ after_replace v place c
+    view-replaced place c after (Ok done) told put =
+        let answer : Ok tt ≡ place_answer v place = told ∙ ap (λ k. at_answer k place) size in
+        ap (λ l. view_of reject l count) put
+        ∙ replaced place c (at_fits count place told)
+        ∙ ap (λ o. if_done o (with_clauses v (set (clauses_in places count) place c)) v) answer
+    view-replaced place c after (Err refused) told put =
+        let answer : Err refused ≡ place_answer v place = told ∙ ap (λ k. at_answer k place) size in
+        ap (λ l. view_of reject l count) put
+        ∙ ap (λ o. if_done o (with_clauses v (set (clauses_in places count) place c)) v) answer
