@@ -3,9 +3,7 @@ use Rattle.std.proofs.Common.{◌≡◌, ℕ, zero, suc, ◌+◌, ◌-◌, ◌<�
 use Rattle.family.specs.declared.clauses.Clause.{Clause}
 use Rattle.fields.specs.declared.faults.Fault.{Fault}
 use Rattle.fields.specs.declared.faults.Part.TheVariants.{Clause as InClause}
-use Rattle.fields.specs.declared.faults.RecordFault.{RecordFault}
-use Rattle.fields.specs.Faults.{fault_in}
-use Rattle.filterfile.specs.Files.{clause_of, clauses_of, behind_of}
+use Rattle.filterfile.specs.Files.{in_part, clause_of, clauses_of, behind_of}
 use Rattle.fields.specs.Reading.{Read, ◌>>=◌}
 use Rattle.fields.proofs.Seen.{same_parts}
 
@@ -48,7 +46,7 @@ module _ {R A : Type 0} (region_of : List ℕ → Read R) (action_of : List ℕ 
         let less : count - number ≡ suc (count - (number + 1)) = omega arith in
         ap (λ n. clauses_of region_of action_of total n number bytes) less
 
-    module _ (clause : Clause R A) (rest : List ℕ) (read : clause_of region_of action_of bytes ≡ Ok (clause, rest)) where
+    module _ (clause : Clause R A) (rest : List ℕ) (read : in_part total (InClause number) (clause_of region_of action_of bytes) ≡ Ok (clause, rest)) where
       next_clause : clauses_of region_of action_of total (count - number) number bytes ≡ with_first clause (clauses_of region_of action_of total (count - (number + 1)) (number + 1) rest)
       next_clause = one_ahead ∙ rw read
 
@@ -58,5 +56,5 @@ module _ {R A : Type 0} (region_of : List ℕ → Read R) (action_of : List ℕ 
       pub others-read : (all : List (Clause R A)) (behind : List ℕ) → clauses_of region_of action_of total (count - number) number bytes ≡ Ok (all, behind) → (later : List (Clause R A)) × (clauses_of region_of action_of total (count - (number + 1)) (number + 1) rest ≡ Ok (later, behind)) × (all ≡ clause ∷ later)
       others-read all behind same = others clause _ all behind (sym next_clause ∙ same)
 
-    pub clause_refused : (fault : RecordFault) → clause_of region_of action_of bytes ≡ Err fault → clauses_of region_of action_of total (count - number) number bytes ≡ Err (fault_in total (InClause number) fault)
+    pub clause_refused : (fault : Fault) → in_part total (InClause number) (clause_of region_of action_of bytes) ≡ Err fault → clauses_of region_of action_of total (count - number) number bytes ≡ Err fault
     clause_refused fault read = one_ahead ∙ rw read

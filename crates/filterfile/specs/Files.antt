@@ -1,5 +1,5 @@
 -- A whole file: a family code, a count of clauses, the clauses, and the default action.
-use Rattle.std.specs.Prelude.{ℕ, zero, suc, ◌+◌, ◌-◌, min, Bool, cond, ◌||◌, List, [], ◌∷◌, ◌++◌, length, drop, Ok, Err, Result, ◌==◌, nat_lt}
+use Rattle.std.specs.Prelude.{◌≡◌, ℕ, zero, suc, ◌+◌, ◌-◌, min, Bool, cond, ◌||◌, List, [], ◌∷◌, ◌++◌, length, drop, Ok, Err, Result, ◌==◌, nat_lt}
 use Rattle.family.specs.declared.clauses.Clause.{Clause}
 use Rattle.fields.specs.declared.faults.Fault.{Fault}
 use Rattle.fields.specs.declared.faults.FaultKind.TheVariants.{OtherFamily, CountAboveLimit, NoPlaces, SpareBytes}
@@ -75,3 +75,9 @@ answer_of (Err fault) = Err fault
 abbrev pub places_after : {C A : Type 0} → List C → Result (List C × A) Fault → List C
 places_after places (Ok p) = p.0 ++ drop (length p.0) places
 places_after places (Err fault) = places
+
+-- the clauses were handed to a function one after the other, each with its number
+abbrev pub HandedOver : {F C : Type 0} → (F → ℕ → C → F → Type 0) → ℕ → F → List C → F → Type 0
+HandedOver {F} {C} step number before [] after = before ≡ after
+HandedOver {F} {C} step number before (clause ∷ clauses) after =
+    (next : F) × step before number clause next × HandedOver step (number + 1) next clauses after
