@@ -8,11 +8,11 @@ use Rattle.fields.specs.Reading.{Read, ◌>>=◌}
 use Rattle.fields.proofs.Seen.{same_parts}
 
 module _ {R A : Type 0} (region_of : List ℕ → Read R) (action_of : List ℕ → Read A) (total : ℕ) where
-  abbrev Clauses : Type 0
+  abbrev pub Clauses : Type 0
   Clauses = Result (List (Clause R A) × List ℕ) Fault
 
   -- a clause in front of the later ones
-  abbrev with_first : Clause R A → Clauses → Clauses
+  abbrev pub with_first : Clause R A → Clauses → Clauses
   with_first clause later = ◌>>=◌ later (λ p. Ok (clause ∷ p.0, p.1))
 
   behind_first : (clause : Clause R A) (later : Clauses) → behind_of (with_first clause later) ≡ behind_of later
@@ -47,14 +47,12 @@ module _ {R A : Type 0} (region_of : List ℕ → Read R) (action_of : List ℕ 
         ap (λ n. clauses_of region_of action_of total n number bytes) less
 
     module _ (clause : Clause R A) (rest : List ℕ) (read : in_part total (InClause number) (clause_of region_of action_of bytes) ≡ Ok (clause, rest)) where
-      next_clause : clauses_of region_of action_of total (count - number) number bytes ≡ with_first clause (clauses_of region_of action_of total (count - (number + 1)) (number + 1) rest)
+      pub next_clause : clauses_of region_of action_of total (count - number) number bytes ≡ with_first clause (clauses_of region_of action_of total (count - (number + 1)) (number + 1) rest)
       next_clause = one_ahead ∙ rw read
 
-      pub behind_next : behind_of (clauses_of region_of action_of total (count - number) number bytes) ≡ behind_of (clauses_of region_of action_of total (count - (number + 1)) (number + 1) rest)
-      behind_next = ap behind_of next_clause ∙ behind_first clause _
-
-      pub others-read : (all : List (Clause R A)) (behind : List ℕ) → clauses_of region_of action_of total (count - number) number bytes ≡ Ok (all, behind) → (later : List (Clause R A)) × (clauses_of region_of action_of total (count - (number + 1)) (number + 1) rest ≡ Ok (later, behind)) × (all ≡ clause ∷ later)
-      others-read all behind same = others clause _ all behind (sym next_clause ∙ same)
+      -- the later clauses end where these do
+      pub ends-next : (ends : Result (List ℕ) Fault) → behind_of (clauses_of region_of action_of total (count - number) number bytes) ≡ ends → behind_of (clauses_of region_of action_of total (count - (number + 1)) (number + 1) rest) ≡ ends
+      ends-next ends same = sym (ap behind_of next_clause ∙ behind_first clause _) ∙ same
 
     pub clause_refused : (fault : Fault) → in_part total (InClause number) (clause_of region_of action_of bytes) ≡ Err fault → clauses_of region_of action_of total (count - number) number bytes ≡ Err fault
     clause_refused fault read = one_ahead ∙ rw read

@@ -1,53 +1,39 @@
 -- The clauses of a file handed over one after the other, and places filled with them.
-use Rattle.std.proofs.Common.{◌≡◌, ℕ, ◌+◌, ◌-◌, ◌<◌, ◌≤◌, List, [], ◌∷◌, ◌++◌, length, take, drop, set, Ok, Err, sym, refl, ap, subst, MutBor, ◌∙◌, arith}
-use native.Mathlib.Nat.{sub-zero, add-zero, zero-add}
+use Rattle.std.proofs.Common.{◌≡◌, ℕ, ◌+◌, ◌-◌, ◌<◌, ◌≤◌, List, [], ◌∷◌, ◌++◌, length, take, drop, set, Ok, Err, IfOk, MutBor, sym, refl, ap, subst, ◌∙◌, arith}
+use native.Mathlib.Nat.{add-zero, zero-add}
 use Rattle.std.proofs.lemmas.List.{append_assoc, drop-set-lt, length-set, take-append-drop, take_more_set}
 use Rattle.family.specs.declared.clauses.Clause.{Clause}
 use Rattle.fields.specs.declared.faults.Fault.{Fault}
 use Rattle.fields.specs.declared.faults.Part.TheVariants.{Clause as InClause}
 use Rattle.filterfile.specs.Files.{in_part, clause_of, clauses_of, HandedOver}
 use Rattle.fields.specs.Reading.{Read}
-use Rattle.filterfile.proofs.ClauseTurns.{others-read, clause_refused}
-use Rattle.fields.proofs.Seen.{same_parts}
+use Rattle.filterfile.proofs.ClauseTurns.{Clauses, with_first, next_clause, clause_refused}
 
-module _ {R A F : Type 0} (region_of : List ℕ → Read R) (action_of : List ℕ → Read A) (step : F → ℕ → Clause R A → F → Type 0) where
-  -- where the later clauses are handed over too, all of them are
-  pub record Handing (total count : ℕ) (clauses : List (Clause R A)) (first : F) (behind : List ℕ) (number : ℕ) (rest : List ℕ) (state : F) : Type 0 where
-    pub later : List (Clause R A)
-    pub to_come : clauses_of region_of action_of total (count - number) number rest ≡ Ok (later, behind)
-    pub so_far : (last : F) → HandedOver step number state later last → HandedOver step 0 first clauses last
+module _ {R A F : Type 0} (region_of : List ℕ → Read R) (action_of : List ℕ → Read A) (step : F → ℕ → Clause R A → F → Type 0) (total : ℕ) where
+  -- so many clauses that are read were handed over
+  abbrev pub Handed : ℕ → ℕ → List ℕ → F → F → Type 0
+  Handed count number bytes before after =
+      IfOk (clauses_of region_of action_of total count number bytes) (λ p. HandedOver step number before p.0 after)
 
-  module _ {total count : ℕ} {clauses : List (Clause R A)} {first : F} {behind : List ℕ} where
-    pub begun : {bytes : List ℕ} → clauses_of region_of action_of total count 0 bytes ≡ Ok (clauses, behind) → Handing total count clauses first behind 0 bytes first
-    begun {bytes} all =
-        record {
-          later = clauses;
-          to_come = ap (λ n. clauses_of region_of action_of total n 0 bytes) (sub-zero count) ∙ all;
-          so_far = λ last handed. handed;
-        }
+  first_handed : (number : ℕ) (before next after : F) (clause : Clause R A) → step before number clause next → (later : Clauses region_of action_of total) → IfOk later (λ p. HandedOver step (number + 1) next p.0 after) → IfOk (with_first region_of action_of total clause later) (λ p. HandedOver step number before p.0 after)
+  first_handed number before next after clause taken (Ok p) handed = (next, taken, handed)
+  first_handed number before next after clause taken (Err fault) handed = tt
 
-    module _ {number : ℕ} {rest : List ℕ} {state : F} (handing : Handing total count clauses first behind number rest state) where
-      pub one_more : number < count → (clause : Clause R A) (after : List ℕ) (next : F) → in_part total (InClause number) (clause_of region_of action_of rest) ≡ Ok (clause, after) → step state number clause next → Handing total count clauses first behind (number + 1) after next
-      one_more more clause after next read taken =
-          let others = others-read region_of action_of total count number more rest clause after read handing.later behind handing.to_come in
-          record {
-            later = others.0;
-            to_come = others.1;
-            so_far = λ last handed. handing.so_far last (subst (λ l. HandedOver step number state l last) (sym others.2) (next, taken, handed));
-          }
+  module _ (count number : ℕ) (bytes : List ℕ) where
+    module _ (more : number < count) (before after : F) where
+      pub handed-next : (clause : Clause R A) (rest : List ℕ) (next : F) → in_part total (InClause number) (clause_of region_of action_of bytes) ≡ Ok (clause, rest) → step before number clause next → Handed (count - (number + 1)) (number + 1) rest next after → Handed (count - number) number bytes before after
+      handed-next clause rest next read taken handed =
+          subst (λ r. IfOk r (λ p. HandedOver step number before p.0 after)) (sym (next_clause region_of action_of total count number more bytes clause rest read))
+          (first_handed number before next after clause taken _ handed)
 
-      pub never-refused : number < count → (fault : Fault) → in_part total (InClause number) (clause_of region_of action_of rest) ≡ Err fault → ⊥
-      never-refused more fault read =
-          let refused = clause_refused region_of action_of total count number more rest fault read in
-          let told = handing.to_come in
-          let z : ◌≡◌ {A = ℕ} 0 1 = cc in
-          omega arith
+      pub handed-refused : (fault : Fault) → in_part total (InClause number) (clause_of region_of action_of bytes) ≡ Err fault → Handed (count - number) number bytes before after
+      handed-refused fault read =
+          subst (λ r. IfOk r (λ p. HandedOver step number before p.0 after)) (sym (clause_refused region_of action_of total count number more bytes fault read)) tt
 
-      pub all-handed : number ≡ count → HandedOver step 0 first clauses state
-      all-handed end =
-          let none : count - number ≡ 0 = omega arith in
-          let last = ap (λ n. clauses_of region_of action_of total n number rest) (sym none) ∙ handing.to_come in
-          handing.so_far state (subst (λ l. HandedOver step number state l state) (same_parts last).0 refl)
+    pub handed-none : (state : F) → count ≤ number → Handed (count - number) number bytes state state
+    handed-none state end =
+        let none : 0 ≡ count - number = omega arith in
+        subst (λ n. Handed n number bytes state state) none refl
 
 -- each clause that is handed over is put into the place of its number, behind a reference that stays the same
 module _ {F C : Type 0} (step : F → ℕ → C → F → Type 0) (places : F → MutBor (List C)) (puts : (p : F) (number : ℕ) (clause : C) (q : F) → step p number clause q → number < length (places p).now → ((places q).ghost_name ≡ (places p).ghost_name) × ((places q).now ≡ set (places p).now number clause)) where

@@ -1,5 +1,5 @@
 // A whole file read into lent clause memory: first checked, then filled in.
-ghost use Rattle.std.specs.Prelude.{◌≡◌, ℕ, ◌≤◌, List, ◌++◌, length, drop, Ok};
+ghost use Rattle.std.specs.Prelude.{◌≡◌, length, IfOk};
 ghost use Rattle.filterfile.specs.AcceptedFiles.{Rightly};
 ghost use Rattle.filterfile.specs.Files.{head_of, usable_places, in_part, clause_of, clauses_of, behind_of, default_of, file_of, answer_of, places_after, HandedOver};
 ghost use Rattle.fields.specs.Reading.{seen, seen_rest};
@@ -50,17 +50,6 @@ fn read_clause<R: Recorded, A: RecordedAction>(
     Ok((Clause { region, action }, rest))
 }
 
-// The clause of this number in a file of so many bytes.
-fn clause_at<R: Recorded, A: RecordedAction>(
-    total: usize,
-    number: usize,
-    bytes: &[u8],
-) -> Result<(Clause<R, A>, &[u8]), Fault>
-    ensures { seen result ≡ in_part total (InClause number) (clause_of R.Recorded.reads A.RecordedAction.reads bytes.now) }
-{
-    read_clause::<R, A>(bytes).map_err(|fault| fault.in_part(Part::Clause(number), total))
-}
-
 // Reads so many clauses and hands each to `keep` with its number: answers the bytes behind them.
 fn read_clauses<'a, R: Recorded, A: RecordedAction, F: FnMut(usize, Clause<R, A>)>(
     total: usize,
@@ -70,11 +59,12 @@ fn read_clauses<'a, R: Recorded, A: RecordedAction, F: FnMut(usize, Clause<R, A>
 ) -> Result<&'a [u8], Fault>
     requires { F.IsAlwaysCallable keep.old }
     ensures rest { seen_rest result ≡ behind_of (clauses_of R.Recorded.reads A.RecordedAction.reads total count 0 bytes.now) }
-    ensures kept { (clauses : List (Clause R A)) (behind : List ℕ) → clauses_of R.Recorded.reads A.RecordedAction.reads total count 0 bytes.now ≡ Ok (clauses, behind) → HandedOver (λ p number clause q. F.step p number clause tt q) 0 keep.old clauses keep.new }
+    ensures kept { IfOk (clauses_of R.Recorded.reads A.RecordedAction.reads total count 0 bytes.now) (λ p. HandedOver (λ f number clause g. F.step f number clause tt g) 0 keep.old p.0 keep.new) }
 {
     let mut rest = bytes;
     for number in 0..count {
-        let (clause, behind) = clause_at::<R, A>(total, number, rest)?;
+        let read = read_clause::<R, A>(rest);
+        let (clause, behind) = read.map_err(|fault| fault.in_part(Part::Clause(number), total))?;
         keep(number, clause);
         rest = behind;
     }
@@ -107,10 +97,8 @@ pub fn read_file<R: Recorded, A: RecordedAction>(
     ensures file { Rightly R.Recorded.reads A.RecordedAction.reads code (length places.old) bytes.now result places.new }
 {
     let total = bytes.len();
-    let (count, body) = read_head(code, places.len(), bytes).map_err(|fault| fault.in_part(
-        Part::Head,
-        total,
-    ))?;
+    let head = read_head(code, places.len(), bytes);
+    let (count, body) = head.map_err(|fault| fault.in_part(Part::Head, total))?;
     let rest = read_clauses::<R, A, _>(total, count, body, &mut |_, _| ())?;
     let default = read_default::<A>(total, rest)?;
     let mut fill = |number: usize, clause: Clause<R, A>| {

@@ -1,5 +1,6 @@
-use Rattle.std.proofs.Common.{◌≡◌, ◌≤◌, length, Ok, sym, ap, ◌∙◌, rules, arith}
-use Rattle.filterfile.specs.Files.{head_of, answer_of, places_after}
+use Rattle.std.proofs.Common.{◌≡◌, ◌≤◌, length, Ok, sym, ◌∙◌, rules, arith}
+use Rattle.std.proofs.lemmas.Result.{IfOk-at_ok}
+use Rattle.filterfile.specs.Files.{head_of}
 use Rattle.filterfile.proofs.Accepting.{settled}
 use Rattle.filterfile.proofs.Handing.{all-put}
 use Rattle.filterfile.proofs.Heads.{head_read}
@@ -22,10 +23,10 @@ returns g c =
     let last = sym c.read_default.ensures ∙ c.in_ok-default.was in
     let whole = whole_file g.R.Recorded.reads g.A.RecordedAction.reads c.args.code (length c.args.places.now) c.args.bytes.now _ _ _ _ head clauses last in
     let room : length whole.clauses ≤ length c.args.places.now = omega (arith, whole.size, (head_read c.args.code (length c.args.places.now) c.args.bytes.now _ _ head).room) in
-    let handed = c.read_clauses-2.ensures.kept whole.clauses _ whole.read in
+    let handed = IfOk-at_ok _ whole.read c.read_clauses-2.ensures.kept in
     let put = all-put _ (λ s. s.0) (λ p number clause q step within. search rules) _ whole.clauses _ handed room in
     let same = sym put.0 in
-    let filled = put.1 ∙ ap (places_after c.args.places.now) (sym whole.file) in
+    let filled = put.1 in
+    let after = whole.places c.args.places.now in
     settled g.R.Recorded.reads g.A.RecordedAction.reads c.args.code (length c.args.places.now) c.args.bytes.now _ c.args.places.now _
-    (ap (λ n. Ok (n, c.in_ok-default.default)) (sym whole.size) ∙ ap answer_of (sym whole.file))
-    (search (rules, same, filled))
+    whole.answer (search (rules, same, filled, after))
