@@ -1,5 +1,5 @@
 -- A whole file: a family code, a count of clauses, the clauses, and the default action.
-use Rattle.std.specs.Prelude.{◌≡◌, ℕ, zero, suc, ◌+◌, ◌-◌, min, Bool, cond, ◌||◌, List, [], ◌∷◌, ◌++◌, length, drop, Ok, Err, Result, ◌==◌, nat_lt}
+use Rattle.std.specs.Prelude.{ℕ, zero, suc, ◌+◌, ◌-◌, min, Bool, cond, ◌||◌, List, [], ◌∷◌, ◌++◌, length, drop, Ok, Err, Result, ◌==◌, nat_lt}
 use Rattle.family.specs.declared.clauses.Clause.{Clause}
 use Rattle.fields.specs.declared.faults.Fault.{Fault}
 use Rattle.fields.specs.declared.faults.FaultKind.TheVariants.{OtherFamily, CountAboveLimit, NoPlaces, SpareBytes}
@@ -76,8 +76,7 @@ abbrev pub places_after : {C A : Type 0} → List C → Result (List C × A) Fau
 places_after places (Ok p) = p.0 ++ drop (length p.0) places
 places_after places (Err fault) = places
 
--- the clauses were handed to a function one after the other, each with its number
-abbrev pub HandedOver : {F C : Type 0} → (F → ℕ → C → F → Type 0) → ℕ → F → List C → F → Type 0
-HandedOver {F} {C} step number before [] after = before ≡ after
-HandedOver {F} {C} step number before (clause ∷ clauses) after =
-    (next : F) × step before number clause next × HandedOver step (number + 1) next clauses after
+-- clauses handed to a function one after the other, each with its number, the first of which is given
+pub data HandedOver {F C : Type 0} (step : F → ℕ → C → Unit {0} → F → Type 0) : ℕ → F → List C → F → Type 0 where
+  none : {number : ℕ} {state : F} → HandedOver step number state [] state
+  next : {number : ℕ} {before between after : F} {clause : C} {clauses : List C} → step before number clause tt between → HandedOver step (number + 1) between clauses after → HandedOver step number before (clause ∷ clauses) after

@@ -59,7 +59,7 @@ fn read_clauses<'a, R: Recorded, A: RecordedAction, F: FnMut(usize, Clause<R, A>
 ) -> Result<&'a [u8], Fault>
     requires { F.IsAlwaysCallable keep.old }
     ensures rest { seen_rest result ≡ behind_of (clauses_of R.Recorded.reads A.RecordedAction.reads total count 0 bytes.now) }
-    ensures kept { IfOk (clauses_of R.Recorded.reads A.RecordedAction.reads total count 0 bytes.now) (λ p. HandedOver (λ f number clause g. F.step f number clause tt g) 0 keep.old p.0 keep.new) }
+    ensures kept { IfOk (clauses_of R.Recorded.reads A.RecordedAction.reads total count 0 bytes.now) (λ p. HandedOver F.step 0 keep.old p.0 keep.new) }
 {
     let mut rest = bytes;
     for number in 0..count {

@@ -14,9 +14,9 @@ loop-number-preserved g c =
     record {
       callable = search (rules, of_calls, told.callable);
       rest = ends-next g.R.Recorded.reads g.A.RecordedAction.reads c.args.total c.args.count number (omega arith) c.loop-number.rest.now _ _ read _ told.rest;
-      kept = λ last later. told.kept last (handed-next g.R.Recorded.reads g.A.RecordedAction.reads _ c.args.total c.args.count number _ (omega arith) _ last _ _ _ read c.keep.ensures later);
+      kept = λ last later. told.kept last (handed-next g.R.Recorded.reads g.A.RecordedAction.reads (goal.F-step g) c.args.total c.args.count number _ (omega arith) c.loop-number.keep last _ _ c.keep.new.self read called later);
     }
 
 pub returns-clause-kept : goal.returns-clause-kept
 returns-clause-kept g c =
-    c.loop-number.invariant.kept _ (handed-none g.R.Recorded.reads g.A.RecordedAction.reads _ c.args.total c.args.count c.loop-number.number-counter _ _ (omega arith))
+    c.loop-number.invariant.kept _ (handed-none g.R.Recorded.reads g.A.RecordedAction.reads (goal.F-step g) c.args.total c.args.count c.loop-number.number-counter _ c.loop-number.keep (omega arith))

@@ -8,7 +8,7 @@ use Rattle.filterfile.proofs.files.read_clauses.Given as goal
 abbrev pub invariant-loop-number : goal.invariant-loop-number
 invariant-loop-number g l =
     let clauses = clauses_of g.R.Recorded.reads g.A.RecordedAction.reads l.total in
-    let handed = Handed g.R.Recorded.reads g.A.RecordedAction.reads (λ p n clause q. goal.F-step g p n clause tt q) l.total in
+    let handed = Handed g.R.Recorded.reads g.A.RecordedAction.reads (goal.F-step g) l.total in
     record {
       callable : always_mut g.F.FnMut l.keep;
       rest : behind_of (clauses (l.count - l.number-counter) l.number-counter l.rest) ≡ behind_of (clauses l.count 0 l.bytes);
