@@ -53,6 +53,3 @@ module _ {R A : Type 0} (region_of : List ℕ → Read R) (action_of : List ℕ 
       -- the later clauses end where these do
       pub ends-next : (ends : Result (List ℕ) Fault) → behind_of (clauses_of region_of action_of total (count - number) number bytes) ≡ ends → behind_of (clauses_of region_of action_of total (count - (number + 1)) (number + 1) rest) ≡ ends
       ends-next ends same = sym (ap behind_of next_clause ∙ behind_first clause _) ∙ same
-
-    pub clause_refused : (fault : Fault) → in_part total (InClause number) (clause_of region_of action_of bytes) ≡ Err fault → clauses_of region_of action_of total (count - number) number bytes ≡ Err fault
-    clause_refused fault read = one_ahead ∙ rw read

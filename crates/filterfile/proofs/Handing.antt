@@ -3,11 +3,10 @@ use Rattle.std.proofs.Common.{◌≡◌, ℕ, ◌+◌, ◌-◌, ◌<◌, ◌≤�
 use native.Mathlib.Nat.{add-zero, zero-add}
 use Rattle.std.proofs.lemmas.List.{append_assoc, drop-set-lt, length-set, take-append-drop, take_more_set}
 use Rattle.family.specs.declared.clauses.Clause.{Clause}
-use Rattle.fields.specs.declared.faults.Fault.{Fault}
 use Rattle.fields.specs.declared.faults.Part.TheVariants.{Clause as InClause}
 use Rattle.filterfile.specs.Files.{in_part, clause_of, clauses_of, HandedOver, none, next}
 use Rattle.fields.specs.Reading.{Read}
-use Rattle.filterfile.proofs.ClauseTurns.{Clauses, with_first, next_clause, clause_refused}
+use Rattle.filterfile.proofs.ClauseTurns.{Clauses, with_first, next_clause}
 
 module _ {R A F : Type 0} (region_of : List ℕ → Read R) (action_of : List ℕ → Read A) (step : F → ℕ → Clause R A → Unit {0} → F → Type 0) (total : ℕ) where
   -- so many clauses that are read were handed over
@@ -25,10 +24,6 @@ module _ {R A F : Type 0} (region_of : List ℕ → Read R) (action_of : List �
       handed-next clause rest between read taken handed =
           subst (λ r. IfOk r (λ p. HandedOver step number before p.0 after)) (sym (next_clause region_of action_of total count number more bytes clause rest read))
           (first_handed number before between after clause taken _ handed)
-
-      pub handed-refused : (fault : Fault) → in_part total (InClause number) (clause_of region_of action_of bytes) ≡ Err fault → Handed (count - number) number bytes before after
-      handed-refused fault read =
-          subst (λ r. IfOk r (λ p. HandedOver step number before p.0 after)) (sym (clause_refused region_of action_of total count number more bytes fault read)) tt
 
     pub handed-none : (state : F) → count ≤ number → Handed (count - number) number bytes state state
     handed-none state end =

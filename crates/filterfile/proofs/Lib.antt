@@ -2,7 +2,6 @@ pub mod Accepting
 pub mod Answered
 pub mod ClauseTurns
 pub mod Handing
-pub mod Fitting
 pub mod Heads
 pub mod Parted
 pub mod Undoing
