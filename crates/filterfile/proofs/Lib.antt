@@ -1,8 +1,7 @@
 pub mod Accepting
 pub mod Answered
 pub mod ClauseTurns
-pub mod Filling
-pub mod Fitting
+pub mod Handing
 pub mod Heads
 pub mod Parted
 pub mod Undoing

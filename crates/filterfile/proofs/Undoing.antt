@@ -1,5 +1,5 @@
 -- Writing a file and reading it undo each other.
-use Rattle.std.proofs.Common.{◌≡◌, ℕ, List, [], ◌∷◌, ◌++◌, length, sym, refl, ap, ◌∙◌, subst}
+use Rattle.std.proofs.Common.{◌≡◌, ℕ, suc, List, [], ◌∷◌, ◌++◌, length, sym, refl, ap, ◌∙◌, subst, arith}
 use Rattle.std.proofs.lemmas.List.{append_assoc, append-nil}
 use Rattle.std.specs.List.{flat_map}
 use Rattle.family.specs.declared.clauses.Clause.{Clause}
@@ -18,9 +18,10 @@ module _ {R A : Type 0} {RegionFits : R → Type 0} {ActionFits : A → Type 0} 
       let others = flat_map (clause_bytes region_bytes action_bytes) clauses in
       let r = region_bytes c.region in
       let a = action_bytes c.action in
+      let first = fit 0 c (omega arith) in
       let front : (r ++ a) ++ others ++ last ≡ r ++ (a ++ (others ++ last)) = simp append_assoc in
       subst (λ l. Laid region_of action_of l (c ∷ clauses) last) (sym front)
-      (next (region.read_back c.region fit.0.0 (a ++ (others ++ last))) (action.read_back c.action fit.0.1 (others ++ last)) (laid-back clauses fit.1 last))
+      (next (region.read_back c.region first.0 (a ++ (others ++ last))) (action.read_back c.action first.1 (others ++ last)) (laid-back clauses (λ k d within. fit (suc k) d (omega (arith, within))) last))
 
   pub file-back : (code : ℕ) (clauses : List (Clause R A)) (default : A) → ClausesFit RegionFits ActionFits clauses → ActionFits default → ReadBack region_bytes action_bytes region_of action_of code clauses default
   file-back code clauses default fit last memory few room =

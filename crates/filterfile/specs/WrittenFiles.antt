@@ -1,6 +1,6 @@
 -- A whole file as it is written, and that writing and reading a file undo each other.
 use Rattle.std.specs.Prelude.{◌≡◌, ℕ, ◌<◌, ◌≤◌, cond, List, [], ◌∷◌, ◌++◌, length, Ok, Err, Result, nat_le, nat_lt}
-use Rattle.std.specs.List.{flat_map}
+use Rattle.std.specs.List.{flat_map, All}
 use Rattle.buffers.specs.Buffers.{written}
 use Rattle.family.specs.declared.clauses.Clause.{Clause}
 use Rattle.fields.specs.Fields.{Octets}
@@ -45,6 +45,4 @@ module _ {R A : Type 0} (region_bytes : R → List ℕ) (action_bytes : A → Li
 
 -- each clause's numbers fit their fields
 abbrev pub ClausesFit : {R A : Type 0} → (R → Type 0) → (A → Type 0) → List (Clause R A) → Type 0
-ClausesFit RegionFits ActionFits [] = Unit {0}
-ClausesFit RegionFits ActionFits (c ∷ clauses) =
-    (RegionFits c.region × ActionFits c.action) × ClausesFit RegionFits ActionFits clauses
+ClausesFit RegionFits ActionFits clauses = All (λ c. RegionFits c.region × ActionFits c.action) clauses
