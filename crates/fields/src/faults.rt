@@ -4,7 +4,7 @@ ghost use Rattle.fields.specs.Faults.{fault_number, cause_number, fault_at, ends
 
 use supplied::MakeError;
 
-#[derive(Clone, Copy)]
+#[derive(Clone, Copy, PartialEq, Eq, Debug)]
 pub enum FaultKind {
     // The bytes end where one is wanted.
     Short,
@@ -25,13 +25,13 @@ pub enum FaultKind {
 }
 
 // A fault in the bytes that a reader was given, of which so many are left from the faulty one on.
-#[derive(Clone, Copy)]
+#[derive(Clone, Copy, PartialEq, Eq, Debug)]
 pub struct RecordFault {
     pub kind: FaultKind,
     pub left: usize,
 }
 
-#[derive(Clone, Copy)]
+#[derive(Clone, Copy, PartialEq, Eq, Debug)]
 pub enum Part {
     Head,
     Clause(usize),
@@ -39,7 +39,7 @@ pub enum Part {
 }
 
 // A fault in a file, at a byte place counted from 0.
-#[derive(Clone, Copy)]
+#[derive(Clone, Copy, PartialEq, Eq, Debug)]
 pub struct Fault {
     pub kind: FaultKind,
     pub part: Part,
@@ -80,6 +80,7 @@ impl RecordFault {
 }
 
 impl Fault {
+    // A variant that holds a value has no discriminant, so the numbers stand in a match.
     pub fn number(self) -> u8
         ensures { result ≡ fault_number self.kind }
     {
@@ -99,9 +100,10 @@ impl Fault {
     pub fn cause(self) -> Option<u8>
         ensures { result ≡ cause_number self.kind }
     {
-        match self.kind {
-            FaultKind::BrokenRule(cause) => Some(cause.number()),
-            _ => None,
+        if let FaultKind::BrokenRule(cause) = self.kind {
+            Some(cause.number())
+        } else {
+            None
         }
     }
 }
