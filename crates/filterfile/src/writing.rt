@@ -4,6 +4,7 @@ ghost use Rattle.std.specs.List.{flat_map};
 ghost use Rattle.buffers.specs.Buffers.{Placed};
 ghost use Rattle.filterfile.specs.WrittenFiles.{number_of, write_answer, written_file, clause_bytes, file_bytes, ReadBack, WrittenBack, ClausesFit};
 
+use crate::files::LIMIT;
 use buffers::put_byte;
 use family::Clause;
 use records::{Written, WrittenAction};
@@ -12,19 +13,16 @@ use records::{Written, WrittenAction};
 #[derive(Clone, Copy, PartialEq, Eq, Debug)]
 pub enum WriteError {
     // More than 64 clauses.
-    CountAboveLimit,
+    CountAboveLimit = 14,
     // The file is longer than the buffer.
-    BufferTooShort,
+    BufferTooShort = 19,
 }
 
 impl WriteError {
     pub fn number(self) -> u8
         ensures { result ≡ number_of self }
     {
-        match self {
-            WriteError::CountAboveLimit => 14,
-            WriteError::BufferTooShort => 19,
-        }
+        self as u8
     }
 }
 
@@ -76,7 +74,7 @@ pub fn write_file<R: Written, A: WrittenAction>(
     ensures back { ReadBack R.Written.writes A.WrittenAction.writes R.Recorded.reads A.RecordedAction.reads code clauses.now default }
     ensures kept { WrittenBack R.Written.writes A.WrittenAction.writes R.Recorded.reads A.RecordedAction.reads code clauses.now default }
 {
-    if clauses.len() > 64 {
+    if clauses.len() > LIMIT {
         return Err(WriteError::CountAboveLimit);
     }
     if put_file(&mut [], code, clauses, default) > out.len() {

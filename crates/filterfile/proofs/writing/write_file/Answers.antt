@@ -32,6 +32,6 @@ returns g c =
       kept = file-kept g.met.R.Written.undoing g.met.A.WrittenAction.undoing c.args.code clauses c.args.default;
     }
 
-pub returns-then-clauses-gt64-clause-kept : goal.returns-then-clauses-gt64-clause-kept
-returns-then-clauses-gt64-clause-kept g c =
+pub returns-then-clauses-gt-LIMIT-clause-kept : goal.returns-then-clauses-gt-LIMIT-clause-kept
+returns-then-clauses-gt-LIMIT-clause-kept g c =
     file-kept g.met.R.Written.undoing g.met.A.WrittenAction.undoing c.args.code c.args.clauses.now c.args.default
