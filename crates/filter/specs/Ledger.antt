@@ -14,6 +14,14 @@ abbrev pub if_done : {X : Type 0} → Result (Unit {0}) EditError → X → X �
 if_done (Ok done) new old = new
 if_done (Err refused) new old = old
 
+-- an element is put among the first so many of so many places, before the one at a place, or at their end
+abbrev pub insert_at_answer : ℕ → ℕ → ℕ → Result (Unit {0}) EditError
+insert_at_answer count room place = cond (nat_lt count place) (Err NoSuchPlace) (cond (nat_le room count) (Err NoPlaceLeft) (Ok tt))
+
+-- one of so many elements is taken out, or changed
+abbrev pub at_answer : ℕ → ℕ → Result (Unit {0}) EditError
+at_answer count place = cond (nat_lt place count) (Ok tt) (Err NoSuchPlace)
+
 -- to each region the one answer is what the function gives
 abbrev pub AnswersBy : {R : Type 0} → (R → Bool) → (R → Bool → Type 0) → Type 0
 AnswersBy passes answers = (r : _) (b : Bool) → answers r b → b ≡ passes r
@@ -24,16 +32,14 @@ module _ {R A : Type 0} where
 
   -- a clause is put before the one at a place, or at the end
   abbrev pub insert_answer : View R A → ℕ → Result (Unit {0}) EditError
-  insert_answer v place =
-      cond (nat_lt (length v.clauses) place) (Err NoSuchPlace)
-      (cond (nat_le (usable_places v.room) (length v.clauses)) (Err NoPlaceLeft) (Ok tt))
+  insert_answer v place = insert_at_answer (length v.clauses) (usable_places v.room) place
 
   abbrev pub after_insert : View R A → ℕ → Clause R A → View R A
   after_insert v place clause = if_done (insert_answer v place) (with_clauses v (insert v.clauses place clause)) v
 
   -- the clause at a place is taken out, or changed
   abbrev pub place_answer : View R A → ℕ → Result (Unit {0}) EditError
-  place_answer v place = cond (nat_lt place (length v.clauses)) (Ok tt) (Err NoSuchPlace)
+  place_answer v place = at_answer (length v.clauses) place
 
   abbrev pub after_remove : View R A → ℕ → View R A
   after_remove v place = if_done (place_answer v place) (with_clauses v (remove v.clauses place)) v
