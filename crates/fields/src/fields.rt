@@ -14,6 +14,7 @@ pub trait Number: Copy + PartialEq {
 
     ghost value: { Self → ℕ };
 
+    // The number at the front of some bytes, and the bytes behind it.
     fn read(bytes: &[u8]) -> Result<(Self, &[u8]), RecordFault>
         ensures { seen_as value result ≡ field_of width bytes.now };
 
@@ -24,7 +25,8 @@ pub trait Number: Copy + PartialEq {
     ghost by_value: { (a b : Self) → Self.eq a b ≡ (value a == value b) };
 }
 
-// A slice pattern takes a field's bytes and what is behind them, in each impl for itself: a macro writes no impl.
+// Each reader takes a field's bytes and the rest by a slice pattern of its own; the three impls stay apart, since no macro
+// may write one.
 impl Number for u8 {
     ghost width = { 1 };
 
@@ -93,7 +95,7 @@ pub fn given<N: Number>(bytes: &[u8], absent: N) -> Result<(N, &[u8]), RecordFau
     Ok((number, rest))
 }
 
-// A field, left out where it equals its absent value.
+// Puts a field, or no bytes where it equals its absent value.
 pub fn put_given<N: Number>(number: N, absent: N, out: &mut Output)
     ensures { Puts out.old (given_bytes N.width (N.value absent) (N.value number)) out.new }
 {

@@ -25,7 +25,7 @@ pub trait Layout: Copy {
     fn field_bits(map: u8) -> u8
         ensures { result ≡ layout.field_bits map };
 
-    // Reads the field of a bit of the map; the file format numbers the bits.
+    // Reads the field of a bit of the map. Bits go by the numbers that the file format gives them.
     fn take_field(self, place: u32, bytes: &[u8]) -> Result<(Self, &[u8]), RecordFault>
         ensures { seen result ≡ layout.taken self place bytes.now };
 
@@ -43,7 +43,7 @@ fn read_fields<L: Layout>(map: u8, bytes: &[u8]) -> Result<(L, &[u8]), RecordFau
     let mut numbers = L::absent();
     let mut rest = bytes;
     let mut ahead = map;
-    // As many fields as the map has ones.
+    // The map's ones number the fields.
     for _ in 0..map.count_ones() {
         (numbers, rest) = numbers.take_field(ahead.trailing_zeros(), rest)?;
         ahead &= ahead - 1;

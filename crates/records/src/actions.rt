@@ -43,15 +43,14 @@ impl Layout for ActionNumbers {
 
     fn take_field(self, place: u32, bytes: &[u8]) -> Result<(ActionNumbers, &[u8]), RecordFault> {
         let (number, rest) = u32::read(bytes)?;
-        let number = Some(number);
         let numbers = if place == 1 {
             ActionNumbers {
-                preference: number,
+                preference: Some(number),
                 ..self
             }
         } else {
             ActionNumbers {
-                med: number,
+                med: Some(number),
                 ..self
             }
         };

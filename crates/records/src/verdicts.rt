@@ -13,7 +13,7 @@ use supplied::{MakeError, Verdict};
 
 // A verdict has no numbers.
 #[derive(Clone, Copy)]
-pub struct VerdictNumbers {}
+pub struct VerdictNumbers;
 
 impl Layout for VerdictNumbers {
     type Made = Verdict;
@@ -21,7 +21,7 @@ impl Layout for VerdictNumbers {
     ghost layout = { verdict_layout };
 
     fn absent() -> VerdictNumbers {
-        VerdictNumbers {}
+        VerdictNumbers
     }
 
     fn is_defined(map: u8) -> bool {
