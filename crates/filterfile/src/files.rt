@@ -6,7 +6,7 @@ ghost use Rattle.fields.specs.Reading.{seen, seen_rest};
 ghost use Rattle.fields.specs.declared.faults.Part.TheVariants.{Clause as InClause};
 
 use family::Clause;
-use fields::{Fault, FaultKind, Part, RecordFault, read_u8};
+use fields::{Fault, FaultKind, Number, Part, RecordFault};
 use records::{Recorded, RecordedAction};
 
 // How many clauses a file may have.
@@ -23,11 +23,11 @@ pub fn usable_places(memory: usize) -> usize
 fn read_head(code: u8, memory: usize, bytes: &[u8]) -> Result<(usize, &[u8]), RecordFault>
     ensures { seen result ≡ head_of code memory bytes.now }
 {
-    let (family, rest) = read_u8(bytes)?;
+    let (family, rest) = u8::read(bytes)?;
     if family != code {
         return Err(RecordFault::at(FaultKind::OtherFamily, bytes));
     }
-    let (count, body) = read_u8(rest)?;
+    let (count, body) = u8::read(rest)?;
     let count = usize::from(count);
     if count > LIMIT {
         return Err(RecordFault::at(FaultKind::CountAboveLimit, rest));
@@ -43,10 +43,8 @@ fn read_clause<R: Recorded, A: RecordedAction>(
 ) -> Result<(Clause<R, A>, &[u8]), RecordFault>
     ensures { seen result ≡ clause_of R.Recorded.reads A.RecordedAction.reads bytes.now }
 {
-    let (region, rest) = R::read(bytes);
-    let region = region?;
-    let (action, rest) = A::read(rest);
-    let action = action?;
+    let (region, rest) = R::read(bytes)?;
+    let (action, rest) = A::read(rest)?;
     Ok((Clause { region, action }, rest))
 }
 
@@ -75,14 +73,12 @@ fn read_clauses<'a, R: Recorded, A: RecordedAction, F: FnMut(usize, Clause<R, A>
 fn read_default<A: RecordedAction>(total: usize, bytes: &[u8]) -> Result<A, Fault>
     ensures { result ≡ default_of A.RecordedAction.reads total bytes.now }
 {
-    match A::read(bytes) {
-        (Ok(action), []) => Ok(action),
-        (Ok(_), spare) => {
-            let fault = RecordFault::at(FaultKind::SpareBytes, spare);
-            Err(fault.in_part(Part::Default, total))
-        }
-        (Err(fault), _) => Err(fault.in_part(Part::Default, total)),
-    }
+    let fault = match A::read(bytes) {
+        Ok((action, [])) => return Ok(action),
+        Ok((_, spare)) => RecordFault::at(FaultKind::SpareBytes, spare),
+        Err(fault) => fault,
+    };
+    Err(fault.in_part(Part::Default, total))
 }
 
 // Reads a file of the family of this code into the first places: answers the number of its clauses and its default.
