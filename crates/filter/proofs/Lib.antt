@@ -4,4 +4,3 @@ pub mod Fitting
 pub mod Loaded
 pub mod Shifted
 pub mod Viewed
-pub mod Written

@@ -25,6 +25,10 @@ file-read {C} {A} (Ok q) p e =
     (q.0, ap (λ a. Ok (q.0, a)) (ap (λ x. x.1) same), ap (λ x. x.0) same)
 file-read (Err fault) p e = absurd (never-read e)
 
+pub file-refused : {C A : Type 0} (r : Result (List C × A) Fault) (fault : Fault) → answer_of r ≡ Err fault → r ≡ Err fault
+file-refused (Ok p) fault e = let z : ◌≡◌ {A = ℕ} 0 1 = cc in absurd (omega arith)
+file-refused (Err other) fault e = let same : other ≡ fault = cc in ap Err same
+
 -- the view of the places after a load
 pub view-loaded : {R A : Type 0} (region_of : List ℕ → Read R) (action_of : List ℕ → Read A) (code : ℕ) (bytes : List ℕ) (whole : R) (reject : A) (places : List (Clause R A)) (held count : ℕ) (action : A) → answer_of (file_of region_of action_of code (length places) bytes) ≡ Ok (count, action) → view_of reject (with_default whole (places_after places (file_of region_of action_of code (length places) bytes)) action) count ≡ loaded_view (view_of reject places held) (file_of region_of action_of code (length places) bytes)
 view-loaded region_of action_of code bytes whole reject places held count action told =

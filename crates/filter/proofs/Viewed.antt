@@ -1,7 +1,7 @@
 -- A filter's view after its memory was written.
-use Rattle.std.proofs.Common.{◌≡◌, ℕ, ◌-◌, ◌<◌, ◌≤◌, min, List, ◌++◌, map, length, get_or, take, drop, set, sym, refl, ap, ◌∙◌, ⊎_elim, arith, length-append, length-drop, length-set}
+use Rattle.std.proofs.Common.{◌≡◌, ◌-◌, ◌<◌, ◌≤◌, min, List, ◌++◌, map, length, get_or, take, drop, set, refl, ap, ◌∙◌, ⊎_elim, arith, length-append, length-drop, length-set}
 use lib.ListN.{length-map}
-use Rattle.std.proofs.lemmas.List.{map-set, get_or-set_same, get_or_past, get_or-map, take-set-le, take_at}
+use Rattle.std.proofs.lemmas.List.{map-set, get_or-set_same, get_or_past, take-set-le, take_at}
 use Rattle.std.proofs.lemmas.Bool.{cases_lt}
 use Rattle.family.specs.declared.clauses.Clause.{Clause}
 use Rattle.filterfile.specs.Files.{usable_places}
