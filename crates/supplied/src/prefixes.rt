@@ -1,24 +1,27 @@
 // The two parts of an address: the bits of a prefix, and the bits after it.
-ghost use Rattle.std.specs.Prelude.{◌≡◌, ◌-◌, ◌^◌};
-ghost use Rattle.supplied.specs.Prefixes.{first_bits, bits_after};
-
-// How many addresses agree over the first `length` bits.
-pub fn addresses_under(length: u8) -> u64
-    ensures { result ≡ 2 ^ (32 - length) }
-{
-    1 << 32u8.saturating_sub(length)
-}
+ghost use Rattle.std.specs.Prelude.{◌≡◌, ◌≤◌};
+ghost use Rattle.supplied.specs.Prefixes.{first_bits, bits_after, agree};
 
 // The bits of the address after the first `length`.
 pub fn bits_after(address: u32, length: u8) -> u32
+    requires { length ≤ 32 }
     ensures { result ≡ bits_after 32 length address }
 {
-    (u64::from(address) % addresses_under(length)) as u32
+    (u64::from(address) % (1 << (32 - length))) as u32
 }
 
 // The first `length` bits of the address.
-pub fn first_bits(address: u32, length: u8) -> u32
+fn first_bits(address: u32, length: u8) -> u32
+    requires { length ≤ 32 }
     ensures { result ≡ first_bits 32 length address }
 {
-    (u64::from(address) / addresses_under(length)) as u32
+    (u64::from(address) >> (32 - length)) as u32
+}
+
+// Whether two addresses agree over the first `length` bits.
+pub fn same_prefix(x: u32, y: u32, length: u8) -> bool
+    requires { length ≤ 32 }
+    ensures { result ≡ agree 32 length x y }
+{
+    first_bits(x, length) == first_bits(y, length)
 }

@@ -1,30 +1,22 @@
 // The addresses under the prefix of a range, and the part of a range that another holds.
 ghost use Rattle.std.specs.Prelude.{◌≡◌, ◌+◌, ◌-◌, ◌^◌, ◌≤◌};
-ghost use Rattle.supplied.specs.Prefixes.{agree};
 ghost use Rattle.supplied.specs.PrefixRanges.{prefix_narrowed};
 
 use super::PrefixRange;
-use crate::prefixes::{addresses_under, first_bits};
+use crate::prefixes::same_prefix;
 
 impl PrefixRange {
-    // Whether the address begins with the prefix.
-    pub(crate) fn covers(self, address: u32) -> bool
-        ensures { result ≡ agree 32 self.length address self.address }
-    {
-        first_bits(address, self.length) == first_bits(self.address, self.length)
-    }
-
     pub(crate) fn last_address(self) -> u32
         ensures { result + 1 ≡ self.address + 2 ^ (32 - self.length) }
     {
-        (u64::from(self.address) + addresses_under(self.length) - 1) as u32
+        (u64::from(self.address) + (1 << (32 - self.length)) - 1) as u32
     }
 
     // The meet with a range whose prefix is not longer.
     pub(crate) fn narrowed(self, other: PrefixRange) -> Option<PrefixRange>
         ensures { result ≡ prefix_narrowed self other }
     {
-        if !other.covers(self.address) {
+        if !same_prefix(self.address, other.address, other.length) {
             return None;
         }
         let low = self.low.max(other.low);

@@ -6,6 +6,7 @@ ghost use Rattle.supplied.specs.RangeLaws.{range_laws};
 
 use super::PrefixRange;
 use crate::edges::to_edge;
+use crate::prefixes::same_prefix;
 use crate::routes::Route;
 use family::{Edge, Family};
 
@@ -46,14 +47,16 @@ impl Family for PrefixRange {
     }
 
     fn holds_point(self, point: Route) -> bool {
-        self.low <= point.length() && point.length() <= self.high && self.covers(point.address())
+        self.low <= point.length()
+            && point.length() <= self.high
+            && same_prefix(point.address(), self.address, self.length)
     }
 
     fn is_inside(self, other: PrefixRange) -> bool {
         other.low <= self.low
             && self.high <= other.high
             && other.length <= self.length
-            && other.covers(self.address)
+            && same_prefix(self.address, other.address, other.length)
     }
 
     fn meet_with(self, other: PrefixRange) -> Option<PrefixRange> {

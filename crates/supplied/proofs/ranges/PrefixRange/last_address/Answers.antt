@@ -4,5 +4,5 @@ use Rattle.supplied.specs.PrefixValues.{range_values}
 use Rattle.supplied.specs.RangeHolds.{range_end}
 use Rattle.supplied.proofs.ranges.PrefixRange.last_address.Goals as goal
 
-pub overflow_cast-result : goal.overflow_cast-result
-overflow_cast-result c = omega (arith, range_end 32 (range_values.to c.args.self))
+pub overflow_cast-result-2 : goal.overflow_cast-result-2
+overflow_cast-result-2 c = omega (arith, range_end 32 (range_values.to c.args.self))

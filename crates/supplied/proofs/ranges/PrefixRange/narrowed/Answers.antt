@@ -12,7 +12,7 @@ pub returns : goal.returns
 returns c =
     let a = range_values.to c.args.self in
     let b = range_values.to c.args.other in
-    let agreed : agree 32 b.length a.address b.address ≡ true = sym c.covers.ensures ∙ c.if-not-covers.false in
+    let agreed : agree 32 b.length a.address b.address ≡ true = sym c.same_prefix.ensures ∙ c.if-not-same_prefix.false in
     let le : max a.low b.low ≤ min a.high b.high = omega (arith, c.max-low.ensures, c.min-high.ensures, c.if-low-high.false) in
     let t : overlaps 32 a b ≡ true = and_from (agree 32 b.length a.address b.address) (leb (max a.low b.low) (min a.high b.high)) agreed
     (le-leb (max a.low b.low) (min a.high b.high) le) in
