@@ -11,7 +11,7 @@ use family::{ActionKind, Clause, Family};
 use filter::insert_at;
 
 // A row: the two deciding places, the region's number, and where its holes stand and how many they are.
-#[derive(Clone, Copy, PartialEq, Eq, Debug)]
+#[derive(Clone, Copy, PartialEq, Eq, Debug, Default)]
 pub struct Row {
     pub left: usize,
     pub right: usize,

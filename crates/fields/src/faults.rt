@@ -4,7 +4,7 @@ ghost use Rattle.fields.specs.Faults.{fault_number, cause_number, fault_at, ends
 
 use supplied::MakeError;
 
-#[derive(Clone, Copy)]
+#[derive(Clone, Copy, PartialEq, Eq, Debug)]
 pub enum FaultKind {
     // The bytes end where one is wanted.
     Short,
@@ -25,13 +25,13 @@ pub enum FaultKind {
 }
 
 // A fault in the bytes that a reader was given, of which so many are left from the faulty one on.
-#[derive(Clone, Copy)]
+#[derive(Clone, Copy, PartialEq, Eq, Debug)]
 pub struct RecordFault {
     pub kind: FaultKind,
     pub left: usize,
 }
 
-#[derive(Clone, Copy)]
+#[derive(Clone, Copy, PartialEq, Eq, Debug)]
 pub enum Part {
     Head,
     Clause(usize),
@@ -39,7 +39,7 @@ pub enum Part {
 }
 
 // A fault in a file, at a byte place counted from 0.
-#[derive(Clone, Copy)]
+#[derive(Clone, Copy, PartialEq, Eq, Debug)]
 pub struct Fault {
     pub kind: FaultKind,
     pub part: Part,

@@ -1,6 +1,5 @@
 // A pseudo-random generator with a seed, and what is drawn with it.
-use family::{ActionKind, Family};
-use std::test::*;
+use family::{Clause, Family};
 
 #[derive(Drop)]
 pub struct Draws {
@@ -25,29 +24,34 @@ impl Draws {
 
     // One time in so many.
     pub fn once_in(&mut self, times: usize) -> bool {
-        times > 0 && self.next() % times == 0
+        self.next().checked_rem(times) == Some(0)
     }
 
     // One of the items; none only where there is none.
     pub fn pick<T: Copy>(&mut self, items: &[T]) -> Option<T> {
-        if items.is_empty() {
-            return None;
-        }
-        let place = self.next() % items.len();
-        Some(items[place])
+        let place = self.next().checked_rem(items.len())?;
+        items.get(place).copied()
+    }
+}
+
+// A kind of thing that is drawn; none only where what it is drawn from makes none.
+pub trait Draw: Copy {
+    fn draw(draws: &mut Draws) -> Option<Self>;
+}
+
+impl<R: Draw, A: Draw> Draw for Clause<R, A> {
+    fn draw(draws: &mut Draws) -> Option<Clause<R, A>> {
+        let region = R::draw(draws)?;
+        let action = A::draw(draws)?;
+        Some(Clause { region, action })
     }
 }
 
 // A family whose regions are drawn with ends of a few values, and a grid of points that meets every combination of such regions.
-pub trait DrawnRegion: Family {
-    fn draw(draws: &mut Draws) -> Option<Self>;
-
-    fn grid_len() -> usize;
+pub trait Grid: Family + Draw {
+    // How many numbers the grid has.
+    const LENGTH: usize;
 
     // The point of a number below the grid's length; none where the grid's values make no point.
     fn grid_point(number: usize) -> Option<Self::Point>;
-}
-
-pub trait DrawnAction: ActionKind {
-    fn draw(draws: &mut Draws) -> Self;
 }
