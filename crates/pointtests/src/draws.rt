@@ -34,7 +34,7 @@ impl Draws {
     }
 }
 
-// A kind of thing that is drawn; none only where what it is drawn from makes none.
+// A region, an action, or a clause of both, as it is drawn; none only where the values drawn make none.
 pub trait Draw: Copy {
     fn draw(draws: &mut Draws) -> Option<Self>;
 }
@@ -47,7 +47,8 @@ impl<R: Draw, A: Draw> Draw for Clause<R, A> {
     }
 }
 
-// A family whose regions are drawn with ends of a few values, and a grid of points that meets every combination of such regions.
+// A family whose regions are drawn with ends of a few values, and a grid of points that meets every combination of such
+// regions.
 pub trait Grid: Family + Draw {
     // How many numbers the grid has.
     const LENGTH: usize;

@@ -12,7 +12,7 @@ pub struct Drawn<R, A> {
     pub default: A,
 }
 
-// Up to four clauses, and sometimes six: six are drawn, and the first of them taken.
+// Up to four clauses, and sometimes six: six are drawn, and as many of them are taken.
 pub fn draw_clauses<R: Draw, A: Draw>(
     heap: Global,
     draws: &mut Draws,
@@ -53,7 +53,7 @@ pub fn draw_default<A: Draw>(draws: &mut Draws, other: A) -> Option<A> {
 }
 
 impl<R: Family, A: ActionKind> Drawn<R, A> {
-    // The place that decides a point, and its action. It is looked for here, so that the product's own search is not its own judge.
+    // The place that decides a point, and its action: a search of the tests' own, which the product's is judged by.
     pub fn decide(&self, point: R::Point) -> (usize, A) {
         self.clauses
             .iter()

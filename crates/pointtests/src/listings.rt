@@ -35,12 +35,14 @@ impl<R: Family> Listing<R> {
         }))
     }
 
-    // Whether the row's region holds the point and none of its holes does. A hole that no region has counts as one that does.
+    // Whether the row's region holds the point and none of its holes does.
+    // A hole that is no region's number counts as one that does.
     pub fn is_in(&self, row: &Row, point: R::Point) -> bool {
         let end = row.start.saturating_add(row.number);
-        let (Some(region), Some(holes)) =
-            (self.regions.get(row.region), self.holes.get(row.start..end))
-        else {
+        let (Some(region), Some(holes)) = (
+            self.regions.get(row.region),
+            self.holes.get(row.start..end),
+        ) else {
             return false;
         };
         region.holds_point(point)
@@ -52,7 +54,7 @@ impl<R: Family> Listing<R> {
     }
 
     // Whether the rows stand in order, and their holes one row after the other in all places.
-    pub fn is_in_order(&self) -> bool {
+    pub fn rows_are_in_order(&self) -> bool {
         let mut start: usize = 0;
         for row in &self.rows {
             if row.start != start {
@@ -66,7 +68,7 @@ impl<R: Family> Listing<R> {
 
 impl<R: Grid> Listing<R> {
     // Whether each row holds a point of the grid.
-    pub fn is_met(&self) -> bool {
+    pub fn rows_are_met(&self) -> bool {
         self.rows.iter().all(|row| {
             (0..R::LENGTH)
                 .filter_map(|number| R::grid_point(number))

@@ -43,7 +43,7 @@ impl<R: Grid, A: ActionKind + Draw> Trial<R, A> {
         })
     }
 
-    // Seals and compares the two filters, each in one place more than it needs; none where the comparison is declined.
+    // Seals the two filters, each in places for six clauses and the default, and compares them; none where that is declined.
     fn compare(&self, heap: Global) -> Result<Option<Listing<R>>, Fail> {
         let mut left_places = vec![in heap; Clause::default(); 7]?;
         let mut right_places = vec![in heap; Clause::default(); 7]?;
@@ -52,7 +52,8 @@ impl<R: Grid, A: ActionKind + Draw> Trial<R, A> {
         Ok(Listing::of(heap, &left, &right)?)
     }
 
-    // Whether the point is treated unlike: then it lies in one row, which names the two places that decide it, and else in none.
+    // Whether the point is treated unlike: then it lies in one row, which names the two places that decide it,
+    // and else in none.
     fn check_point(&self, rt: &impl Abort, listing: &Listing<R>, point: R::Point) -> bool {
         let (left_place, left_action) = self.left.decide(point);
         let (right_place, right_action) = self.right.decide(point);
@@ -61,7 +62,8 @@ impl<R: Grid, A: ActionKind + Draw> Trial<R, A> {
         let named = rows.next().map(|row| (row.left, row.right));
         assert!(rt;
             named == unlike.then_some((left_place, right_place)) && rows.next().is_none(),
-            "the rows that hold a point, seed {}", self.seed
+            "the rows that hold a point, seed {}",
+            self.seed
         );
         unlike
     }
@@ -83,8 +85,14 @@ impl<R: Grid, A: ActionKind + Draw> Trial<R, A> {
             listing.rows.is_empty() != unlike,
             "rows, but no unlike point, seed {seed}"
         );
-        assert!(rt; listing.is_in_order(), "rows or holes out of order, seed {seed}");
-        assert!(rt; listing.is_met(), "a row without a point, seed {seed}");
+        assert!(rt;
+            listing.rows_are_in_order(),
+            "rows or holes out of order, seed {seed}"
+        );
+        assert!(rt;
+            listing.rows_are_met(),
+            "a row without a point, seed {seed}"
+        );
     }
 }
 
@@ -99,7 +107,9 @@ pub fn trials<R: Grid, A: ActionKind + Draw>(
         if let Some(listing) = trial.compare(rt.alloc())? {
             trial.check(rt, &listing);
             tally.compared = tally.compared.saturating_add(1);
-            tally.alike = tally.alike.saturating_add(usize::from(listing.rows.is_empty()));
+            tally.alike = tally
+                .alike
+                .saturating_add(usize::from(listing.rows.is_empty()));
             tally.rows = tally.rows.saturating_add(listing.rows.len());
         }
     }
