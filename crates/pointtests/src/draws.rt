@@ -29,9 +29,16 @@ impl Draws {
 
     // One of the items; none only where there is none.
     pub fn pick<T: Copy>(&mut self, items: &[T]) -> Option<T> {
-        let place = self.next().checked_rem(items.len())?;
-        items.get(place).copied()
+        let (item, _) = last_digit(self.next(), items)?;
+        Some(item)
     }
+}
+
+// The value that the last digit of a number stands for, and the digits before it, in the base of the number of values.
+pub fn last_digit<T: Copy>(number: usize, values: &[T]) -> Option<(T, usize)> {
+    let place = number.checked_rem(values.len())?;
+    let value = values.get(place).copied()?;
+    Some((value, number / values.len()))
 }
 
 // A region, an action, or a clause of both, as it is drawn; none only where the values drawn make none.

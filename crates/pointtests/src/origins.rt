@@ -1,5 +1,5 @@
 // Filters of routes with origin: prefix ranges with spans of AS numbers, and route actions.
-use crate::draws::{Draw, Draws, Grid};
+use crate::draws::{Draw, Draws, Grid, last_digit};
 use crate::packets::draw_span;
 use crate::trials::trials;
 use std::test::Fail;
@@ -65,10 +65,11 @@ impl Grid for RouteWithOrigin {
     // An address with a bit after the length makes no route: the first address of a prefix, and the one behind its last, have
     // none for the lengths that the prefix allows.
     fn grid_point(number: usize) -> Option<Pair<Route, SpanPoint<4294967295>>> {
-        let address = ADDRESSES[number % 12];
-        let length = LENGTHS[number / 12 % 12];
+        let (address, number) = last_digit(number, &ADDRESSES)?;
+        let (length, number) = last_digit(number, &LENGTHS)?;
+        let (origin, _) = last_digit(number, &AS_NUMBERS)?;
         let first = Route::new(address, length).ok()?;
-        let second = SpanPoint::new(AS_NUMBERS[number / 144 % 9]).ok()?;
+        let second = SpanPoint::new(origin).ok()?;
         Some(Pair { first, second })
     }
 }

@@ -1,5 +1,5 @@
 // Packet filters: spans of addresses, protocols and ports, and verdicts.
-use crate::draws::{Draw, Draws, Grid};
+use crate::draws::{Draw, Draws, Grid, last_digit};
 use crate::trials::trials;
 use family::Family;
 use std::test::Fail;
@@ -51,14 +51,14 @@ impl Grid for Packet {
     fn grid_point(
         number: usize,
     ) -> Option<Pair<SpanPoint<4294967295>, Pair<SpanPoint<255>, SpanPoint<65535>>>> {
-        let address = SpanPoint::new(ADDRESSES[number % 10]).ok()?;
-        let protocol = SpanPoint::new(PROTOCOLS[number / 10 % 9]).ok()?;
-        let port = SpanPoint::new(PORTS[number / 90 % 10]).ok()?;
+        let (address, number) = last_digit(number, &ADDRESSES)?;
+        let (protocol, number) = last_digit(number, &PROTOCOLS)?;
+        let (port, _) = last_digit(number, &PORTS)?;
         Some(Pair {
-            first: address,
+            first: SpanPoint::new(address).ok()?,
             second: Pair {
-                first: protocol,
-                second: port,
+                first: SpanPoint::new(protocol).ok()?,
+                second: SpanPoint::new(port).ok()?,
             },
         })
     }
