@@ -1,6 +1,5 @@
 // A pseudo-random generator with a seed, and what is drawn with it.
-use family::{ActionKind, Family};
-use std::test::*;
+use family::{Clause, Family};
 
 #[derive(Drop)]
 pub struct Draws {
@@ -25,29 +24,42 @@ impl Draws {
 
     // One time in so many.
     pub fn once_in(&mut self, times: usize) -> bool {
-        times > 0 && self.next() % times == 0
+        self.next().checked_rem(times) == Some(0)
     }
 
     // One of the items; none only where there is none.
     pub fn pick<T: Copy>(&mut self, items: &[T]) -> Option<T> {
-        if items.is_empty() {
-            return None;
-        }
-        let place = self.next() % items.len();
-        Some(items[place])
+        let (item, _) = last_digit(self.next(), items)?;
+        Some(item)
     }
 }
 
-// A family whose regions are drawn with ends of a few values, and a grid of points that meets every combination of such regions.
-pub trait DrawnRegion: Family {
-    fn draw(draws: &mut Draws) -> Option<Self>;
+// The value that the last digit of a number stands for, and the digits before it, in the base of the number of values.
+pub fn last_digit<T: Copy>(number: usize, values: &[T]) -> Option<(T, usize)> {
+    let place = number.checked_rem(values.len())?;
+    let value = values.get(place).copied()?;
+    Some((value, number / values.len()))
+}
 
-    fn grid_len() -> usize;
+// A region, an action, or a clause of both, as it is drawn; none only where the values drawn make none.
+pub trait Draw: Copy {
+    fn draw(draws: &mut Draws) -> Option<Self>;
+}
+
+impl<R: Draw, A: Draw> Draw for Clause<R, A> {
+    fn draw(draws: &mut Draws) -> Option<Clause<R, A>> {
+        let region = R::draw(draws)?;
+        let action = A::draw(draws)?;
+        Some(Clause { region, action })
+    }
+}
+
+// A family whose regions are drawn with ends of a few values, and a grid of points that meets every combination of such
+// regions.
+pub trait Grid: Family + Draw {
+    // How many numbers the grid has.
+    const LENGTH: usize;
 
     // The point of a number below the grid's length; none where the grid's values make no point.
     fn grid_point(number: usize) -> Option<Self::Point>;
-}
-
-pub trait DrawnAction: ActionKind {
-    fn draw(draws: &mut Draws) -> Self;
 }

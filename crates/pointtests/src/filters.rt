@@ -1,107 +1,79 @@
 // Filters as they are drawn, and how they are put into drafts.
-use crate::draws::{DrawnAction, DrawnRegion, Draws};
+use crate::draws::{Draw, Draws};
 use family::{ActionKind, Clause, Family};
-use filter::Draft;
-use std::process::Abort;
-use std::test::*;
+use filter::{Draft, EditError, Sealed};
+use std::alloc::Global;
+use std::test::Fail;
 
 // The clauses in their order, and the default.
 #[derive(Drop)]
-pub struct Drawn<'a, R, A> {
-    pub clauses: &'a [Clause<R, A>],
+pub struct Drawn<R, A> {
+    pub clauses: Vec<Clause<R, A>>,
     pub default: A,
 }
 
-pub fn draw_clause<R: DrawnRegion, A: DrawnAction>(
+// Up to four clauses, and sometimes six: six are drawn, and as many of them are taken.
+pub fn draw_clauses<R: Draw, A: Draw>(
+    heap: Global,
     draws: &mut Draws,
-) -> Result<Clause<R, A>, Fail> {
-    let Some(region) = R::draw(draws) else {
-        return Err(Fail::new("no region"));
-    };
-    let action = A::draw(draws);
-    Ok(Clause { region, action })
-}
-
-pub fn draw_clauses<R: DrawnRegion, A: DrawnAction>(
-    draws: &mut Draws,
-    places: &mut [Clause<R, A>],
-) -> Result<(), Fail> {
-    for place in 0..places.len() {
-        places[place] = draw_clause(draws)?;
+) -> Result<Vec<Clause<R, A>>, Fail> {
+    let mut clauses = Vec::new(heap);
+    for _ in 0..6 {
+        clauses.push(Clause::draw(draws).ok_or("no clause")?)?;
     }
-    Ok(())
-}
-
-// Up to four clauses, and sometimes six.
-pub fn draw_count(draws: &mut Draws) -> usize {
-    draws.pick(&[0, 1, 2, 3, 3, 4, 4, 6]).unwrap_or(0)
-}
-
-// One time in two the other side's default, else drawn anew.
-pub fn draw_default<A: DrawnAction>(draws: &mut Draws, other: A) -> A {
-    if draws.once_in(2) {
-        other
-    } else {
-        A::draw(draws)
-    }
-}
-
-// One of the first `count` clauses is drawn anew.
-fn draw_change<R: DrawnRegion, A: DrawnAction>(
-    draws: &mut Draws,
-    count: usize,
-    places: &mut [Clause<R, A>],
-) -> Result<(), Fail> {
-    let clause = draw_clause(draws)?;
-    let place = draws.next() % 8;
-    if place < count && place < places.len() {
-        places[place] = clause;
-    }
-    Ok(())
+    clauses.truncate(draws.pick(&[0, 1, 2, 3, 3, 4, 4, 6]).unwrap_or(0));
+    Ok(clauses)
 }
 
 // The clauses of the other side: one time in four the same, one time in four with one of them changed, else drawn anew.
-// Answers how many they are.
-pub fn draw_right<R: DrawnRegion, A: DrawnAction>(
-    rt: &impl Abort,
+pub fn draw_others<R: Draw, A: Draw>(
+    heap: Global,
     draws: &mut Draws,
-    left: &[Clause<R, A>],
-    left_count: usize,
-    right: &mut [Clause<R, A>],
-) -> Result<usize, Fail> {
+    clauses: &Vec<Clause<R, A>>,
+) -> Result<Vec<Clause<R, A>>, Fail> {
     if draws.once_in(2) {
-        draw_clauses(draws, right)?;
-        return Ok(draw_count(draws));
+        return draw_clauses(heap, draws);
     }
-    assert!(rt; left.len() == right.len());
-    right.copy_from_slice(left);
+    let mut others = clauses.clone()?;
     if draws.once_in(2) {
-        draw_change(draws, left_count, right)?;
-    }
-    Ok(left_count)
-}
-
-// The place that decides a point, and its action.
-pub fn decide<R: Family, A: ActionKind>(filter: &Drawn<R, A>, point: R::Point) -> (usize, A) {
-    for (place, clause) in filter.clauses.iter().enumerate() {
-        if clause.region.holds_point(point) {
-            return (place, clause.action);
+        let clause = Clause::draw(draws).ok_or("no clause")?;
+        if let Some(place) = others.get_mut(draws.next() % 8) {
+            *place = clause;
         }
     }
-    (filter.clauses.len(), filter.default)
+    Ok(others)
 }
 
-// Puts the clauses into a draft, one behind the other, and the default; answers whether every edit was done.
-pub fn append<R: Family, A: ActionKind>(draft: &mut Draft<R, A>, filter: &Drawn<R, A>) -> bool {
-    let mut done = true;
-    for (place, clause) in filter.clauses.iter().enumerate() {
-        done &= draft.insert(place, *clause).is_ok();
+// One time in two the other side's default, else drawn anew.
+pub fn draw_default<A: Draw>(draws: &mut Draws, other: A) -> Option<A> {
+    if draws.once_in(2) {
+        return Some(other);
     }
-    done & draft.set_default(filter.default).is_ok()
+    A::draw(draws)
 }
 
-// The first so many items, or all if there are fewer.
-pub fn front<T>(items: &[T], count: usize) -> &[T] {
-    let end = count.min(items.len());
-    &items[0..end]
+impl<R: Family, A: ActionKind> Drawn<R, A> {
+    // The place that decides a point, and its action: a search of the tests' own, which the product's is judged by.
+    pub fn decide(&self, point: R::Point) -> (usize, A) {
+        self.clauses
+            .iter()
+            .enumerate()
+            .find(|(_, clause)| clause.region.holds_point(point))
+            .map_or((self.clauses.len(), self.default), |(place, clause)| {
+                (place, clause.action)
+            })
+    }
+
+    // Sealed in the places that are lent: the clauses are inserted one behind the other, and the default set.
+    pub fn seal_in<'a>(
+        &self,
+        places: &'a mut [Clause<R, A>],
+    ) -> Result<Sealed<'a, R, A>, EditError> {
+        let mut draft = Draft::new(places);
+        for (place, clause) in self.clauses.iter().enumerate() {
+            draft.insert(place, *clause)?;
+        }
+        draft.set_default(self.default)?;
+        Ok(draft.seal())
+    }
 }

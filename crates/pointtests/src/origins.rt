@@ -1,12 +1,8 @@
 // Filters of routes with origin: prefix ranges with spans of AS numbers, and route actions.
-use crate::draws::{DrawnAction, DrawnRegion, Draws};
-use crate::filters::{Drawn, append};
+use crate::draws::{Draw, Draws, Grid, last_digit};
 use crate::packets::draw_span;
-use crate::trials::{Compared, NOTHING, ROW, Tally, answer_of, check_answer, trials};
-use family::{Clause, Family};
-use filter::Draft;
-use std::process::Abort;
-use std::test::*;
+use crate::trials::trials;
+use std::test::Fail;
 use supplied::{Pair, PrefixRange, Route, RouteAction, RouteWithOrigin, SpanPoint};
 
 // The prefixes that are drawn, and the lengths and AS numbers that ranges and spans of them end at.
@@ -55,61 +51,26 @@ fn draw_range(draws: &mut Draws) -> Option<PrefixRange> {
     PrefixRange::new(address, length, a.min(b).max(length), a.max(b).max(length)).ok()
 }
 
-impl DrawnRegion for RouteWithOrigin {
+impl Draw for RouteWithOrigin {
     fn draw(draws: &mut Draws) -> Option<RouteWithOrigin> {
-        let range = draw_range(draws)?;
-        let origin = draw_span::<4294967295>(draws, &AS_ENDS)?;
-        Some(Pair {
-            first: range,
-            second: origin,
-        })
+        let first = draw_range(draws)?;
+        let second = draw_span(draws, &AS_ENDS)?;
+        Some(Pair { first, second })
     }
+}
 
-    fn grid_len() -> usize {
-        1296
-    }
+impl Grid for RouteWithOrigin {
+    const LENGTH: usize = ADDRESSES.len() * LENGTHS.len() * AS_NUMBERS.len();
 
     // An address with a bit after the length makes no route: the first address of a prefix, and the one behind its last, have
     // none for the lengths that the prefix allows.
     fn grid_point(number: usize) -> Option<Pair<Route, SpanPoint<4294967295>>> {
-        let address = ADDRESSES[number % 12];
-        let length = LENGTHS[number / 12 % 12];
-        let route = Route::new(address, length).ok()?;
-        let origin = SpanPoint::new(AS_NUMBERS[number / 144 % 9]).ok()?;
-        Some(Pair {
-            first: route,
-            second: origin,
-        })
-    }
-}
-
-impl Compared<RouteAction> for RouteWithOrigin {
-    fn check_pair(
-        rt: &impl Abort,
-        left: &Drawn<RouteWithOrigin, RouteAction>,
-        right: &Drawn<RouteWithOrigin, RouteAction>,
-        tally: &mut Tally,
-    ) -> Result<(), Fail> {
-        let mut left_places = [place(); 7];
-        let mut right_places = [place(); 7];
-        let mut regions = [RouteWithOrigin::whole_region(); 256];
-        let mut rows = [ROW; 256];
-        let mut holes = [0; 1024];
-        let mut left_draft = Draft::new(&mut left_places);
-        let mut right_draft = Draft::new(&mut right_places);
-        let left_done = append(&mut left_draft, left);
-        let right_done = append(&mut right_draft, right);
-        let answer = answer_of(
-            &left_draft.seal(),
-            &right_draft.seal(),
-            &mut regions,
-            &mut rows,
-            &mut holes,
-        );
-        let done = left_done & right_done;
-        check_answer(
-            rt, left, right, done, answer, &regions, &rows, &holes, tally,
-        )
+        let (address, number) = last_digit(number, &ADDRESSES)?;
+        let (length, number) = last_digit(number, &LENGTHS)?;
+        let (origin, _) = last_digit(number, &AS_NUMBERS)?;
+        let first = Route::new(address, length).ok()?;
+        let second = SpanPoint::new(origin).ok()?;
+        Some(Pair { first, second })
     }
 }
 
@@ -121,32 +82,21 @@ fn draw_number(draws: &mut Draws) -> Option<u32> {
     draws.pick(&[0, 100])
 }
 
-impl DrawnAction for RouteAction {
-    fn draw(draws: &mut Draws) -> RouteAction {
+impl Draw for RouteAction {
+    fn draw(draws: &mut Draws) -> Option<RouteAction> {
         if draws.once_in(2) {
-            return RouteAction::Reject;
+            return Some(RouteAction::Reject);
         }
-        RouteAction::Accept {
+        Some(RouteAction::Accept {
             preference: draw_number(draws),
             med: draw_number(draws),
-        }
-    }
-}
-
-// A clause place before a clause is drawn or put there.
-fn place() -> Clause<RouteWithOrigin, RouteAction> {
-    Clause {
-        region: RouteWithOrigin::whole_region(),
-        action: RouteAction::Reject,
+        })
     }
 }
 
 #[test]
 fn filters_of_routes_with_origin(rt: HostRuntime) -> Result<(), Fail> {
-    let mut left = [place(); 6];
-    let mut right = [place(); 6];
-    let mut tally = NOTHING;
-    trials(&rt, 20_000, &mut left, &mut right, &mut tally)?;
+    let tally = trials::<RouteWithOrigin, RouteAction>(&rt, 20_000)?;
     assert!(rt; tally.compared > 19_000 && tally.alike > 2_000 && tally.rows > 40_000);
     Ok(())
 }

@@ -1,11 +1,8 @@
 // Packet filters: spans of addresses, protocols and ports, and verdicts.
-use crate::draws::{DrawnAction, DrawnRegion, Draws};
-use crate::filters::{Drawn, append};
-use crate::trials::{Compared, NOTHING, ROW, Tally, answer_of, check_answer, trials};
-use family::{Clause, Family};
-use filter::Draft;
-use std::process::Abort;
-use std::test::*;
+use crate::draws::{Draw, Draws, Grid, last_digit};
+use crate::trials::trials;
+use family::Family;
+use std::test::Fail;
 use supplied::{Packet, Pair, Span, SpanPoint, Verdict};
 
 // The ends that are drawn.
@@ -33,11 +30,11 @@ pub fn draw_span<const TOP: u32>(draws: &mut Draws, ends: &[u32]) -> Option<Span
     Span::<TOP>::new(a.min(b), a.max(b)).ok()
 }
 
-impl DrawnRegion for Packet {
+impl Draw for Packet {
     fn draw(draws: &mut Draws) -> Option<Packet> {
-        let address = draw_span::<4294967295>(draws, &ADDRESS_ENDS)?;
-        let protocol = draw_span::<255>(draws, &PROTOCOL_ENDS)?;
-        let port = draw_span::<65535>(draws, &PORT_ENDS)?;
+        let address = draw_span(draws, &ADDRESS_ENDS)?;
+        let protocol = draw_span(draws, &PROTOCOL_ENDS)?;
+        let port = draw_span(draws, &PORT_ENDS)?;
         Some(Pair {
             first: address,
             second: Pair {
@@ -46,81 +43,36 @@ impl DrawnRegion for Packet {
             },
         })
     }
+}
 
-    fn grid_len() -> usize {
-        900
-    }
+impl Grid for Packet {
+    const LENGTH: usize = ADDRESSES.len() * PROTOCOLS.len() * PORTS.len();
 
     fn grid_point(
         number: usize,
     ) -> Option<Pair<SpanPoint<4294967295>, Pair<SpanPoint<255>, SpanPoint<65535>>>> {
-        let address = SpanPoint::new(ADDRESSES[number % 10]).ok()?;
-        let protocol = SpanPoint::new(PROTOCOLS[number / 10 % 9]).ok()?;
-        let port = SpanPoint::new(PORTS[number / 90 % 10]).ok()?;
+        let (address, number) = last_digit(number, &ADDRESSES)?;
+        let (protocol, number) = last_digit(number, &PROTOCOLS)?;
+        let (port, _) = last_digit(number, &PORTS)?;
         Some(Pair {
-            first: address,
+            first: SpanPoint::new(address).ok()?,
             second: Pair {
-                first: protocol,
-                second: port,
+                first: SpanPoint::new(protocol).ok()?,
+                second: SpanPoint::new(port).ok()?,
             },
         })
     }
 }
 
-impl Compared<Verdict> for Packet {
-    fn check_pair(
-        rt: &impl Abort,
-        left: &Drawn<Packet, Verdict>,
-        right: &Drawn<Packet, Verdict>,
-        tally: &mut Tally,
-    ) -> Result<(), Fail> {
-        let mut left_places = [place(); 7];
-        let mut right_places = [place(); 7];
-        let mut regions = [Packet::whole_region(); 256];
-        let mut rows = [ROW; 256];
-        let mut holes = [0; 1024];
-        let mut left_draft = Draft::new(&mut left_places);
-        let mut right_draft = Draft::new(&mut right_places);
-        let left_done = append(&mut left_draft, left);
-        let right_done = append(&mut right_draft, right);
-        let answer = answer_of(
-            &left_draft.seal(),
-            &right_draft.seal(),
-            &mut regions,
-            &mut rows,
-            &mut holes,
-        );
-        let done = left_done & right_done;
-        check_answer(
-            rt, left, right, done, answer, &regions, &rows, &holes, tally,
-        )
-    }
-}
-
-impl DrawnAction for Verdict {
-    fn draw(draws: &mut Draws) -> Verdict {
-        if draws.once_in(2) {
-            Verdict::Accept
-        } else {
-            Verdict::Reject
-        }
-    }
-}
-
-// A clause place before a clause is drawn or put there.
-fn place() -> Clause<Packet, Verdict> {
-    Clause {
-        region: Packet::whole_region(),
-        action: Verdict::Reject,
+impl Draw for Verdict {
+    fn draw(draws: &mut Draws) -> Option<Verdict> {
+        draws.pick(&[Verdict::Accept, Verdict::Reject])
     }
 }
 
 #[test]
 fn packet_filters(rt: HostRuntime) -> Result<(), Fail> {
-    let mut left = [place(); 6];
-    let mut right = [place(); 6];
-    let mut tally = NOTHING;
-    trials(&rt, 20_000, &mut left, &mut right, &mut tally)?;
+    let tally = trials::<Packet, Verdict>(&rt, 20_000)?;
     assert!(rt; tally.compared > 19_000 && tally.alike > 2_000 && tally.rows > 40_000);
     Ok(())
 }

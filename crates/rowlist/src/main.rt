@@ -6,9 +6,8 @@ use std::io::Write;
 use std::{fs, io};
 
 fn main(rt: HostRuntime) -> io::Result<()> {
-    let heap = rt.alloc();
-    let left = fs::read(&rt, "left.flt").unwrap_or(Vec::new(heap));
-    let right = fs::read(&rt, "right.flt").unwrap_or(Vec::new(rt.alloc()));
-    let text = printed(rt.alloc(), &left, &right)?;
+    // A file that cannot be read counts as empty.
+    let read = |path| fs::read(&rt, path).unwrap_or(Vec::new(rt.alloc()));
+    let text = printed(rt.alloc(), &read("left.flt"), &read("right.flt"))?;
     rt.stdout().write_all(&text)
 }

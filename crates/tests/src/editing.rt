@@ -3,13 +3,11 @@ use family::{ActionKind, Clause};
 use filter::{Draft, EditError, Sealed};
 use std::process::Abort;
 use std::test::Fail;
-use supplied::{PrefixRange, Route, RouteAction};
+use supplied::{MakeError, PrefixRange, Route, RouteAction};
 
 // A clause on the lengths low to 32 of 20.0.0.0/8 that accepts with a MED.
-fn clause(low: u8, med: u32) -> Result<Clause<PrefixRange, RouteAction>, Fail> {
-    let Ok(region) = PrefixRange::new(0x14000000, 8, low, 32) else {
-        return Err(Fail::new("no range"));
-    };
+fn clause(low: u8, med: u32) -> Result<Clause<PrefixRange, RouteAction>, MakeError> {
+    let region = PrefixRange::new(0x14000000, 8, low, 32)?;
     Ok(Clause {
         region,
         action: accept(med),
@@ -31,38 +29,26 @@ fn decided(
     place: usize,
     action: RouteAction,
 ) -> Result<(), Fail> {
-    let Ok(route) = Route::new(0x14000000, length) else {
-        return Err(Fail::new("no route"));
-    };
-    let (at, told) = filter.first_match(route);
-    assert!(rt; at == place);
+    let (at, told) = filter.first_match(Route::new(0x14000000, length)?);
+    assert_eq!(rt; at, place);
     assert!(rt; told.is_alike(action));
     Ok(())
 }
 
-fn refused(rt: &impl Abort, answer: Result<(), EditError>, number: u8) -> Result<(), Fail> {
-    match answer {
-        Ok(()) => Err(Fail::new("not refused")),
-        Err(error) => {
-            assert!(rt; error.number() == number);
-            Ok(())
-        },
-    }
-}
-
-fn done(rt: &impl Abort, answer: Result<(), EditError>) {
-    assert!(rt; answer.is_ok());
+// An edit that is refused with this number.
+fn refused(rt: &impl Abort, answer: Result<(), EditError>, number: u8) {
+    assert_eq!(rt; answer.map_err(EditError::number), Err(number));
 }
 
 #[test]
 fn memory_without_a_place(rt: HostRuntime) -> Result<(), Fail> {
     let c = clause(8, 1)?;
     let mut draft = Draft::new(&mut []);
-    refused(&rt, draft.insert(0, c), 7)?;
-    refused(&rt, draft.insert(1, c), 6)?;
-    refused(&rt, draft.remove(0), 6)?;
-    refused(&rt, draft.replace(0, c), 6)?;
-    refused(&rt, draft.set_default(accept(1)), 7)?;
+    refused(&rt, draft.insert(0, c), 7);
+    refused(&rt, draft.insert(1, c), 6);
+    refused(&rt, draft.remove(0), 6);
+    refused(&rt, draft.replace(0, c), 6);
+    refused(&rt, draft.set_default(accept(1)), 7);
     decided(&rt, &draft.seal(), 8, 0, RouteAction::Reject)
 }
 
@@ -71,8 +57,8 @@ fn one_place_for_the_default(rt: HostRuntime) -> Result<(), Fail> {
     let c = clause(8, 1)?;
     let mut places = [c; 1];
     let mut draft = Draft::new(&mut places);
-    refused(&rt, draft.insert(0, c), 7)?;
-    done(&rt, draft.set_default(accept(9)));
+    refused(&rt, draft.insert(0, c), 7);
+    draft.set_default(accept(9))?;
     decided(&rt, &draft.seal(), 8, 0, accept(9))
 }
 
@@ -80,16 +66,16 @@ fn one_place_for_the_default(rt: HostRuntime) -> Result<(), Fail> {
 fn clauses_keep_their_order(rt: HostRuntime) -> Result<(), Fail> {
     let mut places = [clause(8, 0)?; 5];
     let mut draft = Draft::new(&mut places);
-    done(&rt, draft.insert(0, clause(24, 1)?));
-    refused(&rt, draft.insert(2, clause(8, 9)?), 6)?;
-    done(&rt, draft.insert(0, clause(30, 2)?));
-    done(&rt, draft.insert(2, clause(8, 3)?));
-    done(&rt, draft.insert(1, clause(28, 4)?));
-    refused(&rt, draft.insert(0, clause(8, 9)?), 7)?;
-    refused(&rt, draft.insert(5, clause(8, 9)?), 6)?;
-    refused(&rt, draft.remove(4), 6)?;
-    done(&rt, draft.replace(3, clause(16, 5)?));
-    done(&rt, draft.remove(0));
+    draft.insert(0, clause(24, 1)?)?;
+    refused(&rt, draft.insert(2, clause(8, 9)?), 6);
+    draft.insert(0, clause(30, 2)?)?;
+    draft.insert(2, clause(8, 3)?)?;
+    draft.insert(1, clause(28, 4)?)?;
+    refused(&rt, draft.insert(0, clause(8, 9)?), 7);
+    refused(&rt, draft.insert(5, clause(8, 9)?), 6);
+    refused(&rt, draft.remove(4), 6);
+    draft.replace(3, clause(16, 5)?)?;
+    draft.remove(0)?;
     // Lengths 28, 24 and 16 are left, in this order.
     decided(&rt, &draft.seal(), 30, 0, accept(4))
 }
@@ -98,10 +84,10 @@ fn clauses_keep_their_order(rt: HostRuntime) -> Result<(), Fail> {
 fn later_clauses_decide_what_earlier_ones_leave(rt: HostRuntime) -> Result<(), Fail> {
     let mut places = [clause(8, 0)?; 4];
     let mut draft = Draft::new(&mut places);
-    done(&rt, draft.insert(0, clause(28, 4)?));
-    done(&rt, draft.insert(1, clause(24, 1)?));
-    done(&rt, draft.insert(2, clause(16, 5)?));
-    done(&rt, draft.set_default(accept(7)));
+    draft.insert(0, clause(28, 4)?)?;
+    draft.insert(1, clause(24, 1)?)?;
+    draft.insert(2, clause(16, 5)?)?;
+    draft.set_default(accept(7))?;
     decided(&rt, &draft.seal(), 20, 2, accept(5))
 }
 
@@ -109,8 +95,8 @@ fn later_clauses_decide_what_earlier_ones_leave(rt: HostRuntime) -> Result<(), F
 fn default_decides_what_no_clause_holds(rt: HostRuntime) -> Result<(), Fail> {
     let mut places = [clause(8, 0)?; 4];
     let mut draft = Draft::new(&mut places);
-    done(&rt, draft.insert(0, clause(28, 4)?));
-    done(&rt, draft.set_default(accept(7)));
+    draft.insert(0, clause(28, 4)?)?;
+    draft.set_default(accept(7))?;
     decided(&rt, &draft.seal(), 20, 1, accept(7))
 }
 
@@ -120,11 +106,11 @@ fn sixty_four_clauses_and_no_more(rt: HostRuntime) -> Result<(), Fail> {
     let mut places = [c; 70];
     let mut draft = Draft::new(&mut places);
     for place in 0..64 {
-        done(&rt, draft.insert(place, c));
+        draft.insert(place, c)?;
     }
-    refused(&rt, draft.insert(64, c), 7)?;
-    refused(&rt, draft.insert(65, c), 6)?;
-    done(&rt, draft.remove(63));
-    done(&rt, draft.insert(0, clause(8, 2)?));
+    refused(&rt, draft.insert(64, c), 7);
+    refused(&rt, draft.insert(65, c), 6);
+    draft.remove(63)?;
+    draft.insert(0, clause(8, 2)?)?;
     decided(&rt, &draft.seal(), 8, 0, accept(2))
 }

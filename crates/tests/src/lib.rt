@@ -6,6 +6,8 @@ mod comparing;
 #[cfg(test)]
 mod editing;
 #[cfg(test)]
+mod families;
+#[cfg(test)]
 mod loading;
 #[cfg(test)]
 mod printing;

@@ -1,4 +1,4 @@
-use Rattle.std.proofs.Common.{refl}
+use Rattle.std.proofs.Common.{rules}
 use Rattle.std.specs.Fmt.{digits}
 use Rattle.supplied.specs.MadeRanges.{made_range}
 use Rattle.supplied.specs.MadeRoutes.{made_route}
@@ -9,27 +9,4 @@ use Rattle.examples.proofs.examples_stand.Goals as goal
 
 pub returns : goal.returns
 unfolding made_range made_route made_span listing places_from places_of digits
-returns c =
-    record {
-      held = refl;
-      too_long = refl;
-      meet = refl;
-      no_meet = refl;
-      low-refused = refl;
-      bit_refused = refl;
-      route_refused = refl;
-      bytes = refl;
-      shorter = refl;
-      overlap = refl;
-      three_places = refl;
-      four_places = refl;
-      covered = refl;
-      defaults = refl;
-      preference = refl;
-      good_packets = refl;
-      verdict_bit = refl;
-      other_code = refl;
-      no_byte = refl;
-      upside_down = refl;
-      short_buffer = refl;
-    }
+returns c = search rules
