@@ -5,7 +5,8 @@ use mathlib.Core.List.{Memᴰ}
 use Rattle.std.proofs.lemmas.Option.{slice_get-get_or}
 use Rattle.std.proofs.lemmas.Bool.{and_from, and_parts, both_ways, cases_Bool, not-true}
 use Rattle.family.specs.Families.{FamilyLaws}
-use Rattle.family.specs.Lists.{any_of, first_where}
+use Rattle.std.specs.List.{list_any}
+use Rattle.family.specs.Lists.{first_where}
 use Rattle.family.specs.declared.clauses.Clause.{Clause}
 use Rattle.family.specs.declared.edges.Edge.{Edge}
 use Rattle.compare.specs.Cells.{region_at, numbers, strictly, holes_of, holding, in_cell}
@@ -78,11 +79,11 @@ module _ {R P : Type 0} {whole : R} {first : P} {axes : ℕ} {holds : R → P �
     -- a point of a cell has the cell's region as its least
     pub cell_least : (n : ℕ) (p : P) → n < length xs → in_cell holds at (cell_of n) p ≡ true → Least n p
     cell_least n p low t =
-        let both = and_parts (holding holds at p n) (not (any_of (holding holds at p) (holes_of inside whole xs (at n)))) t in
-        let out = not-true (any_of (holding holds at p) (holes_of inside whole xs (at n))) both.1 in
+        let both = and_parts (holding holds at p n) (not (list_any (holding holds at p) (holes_of inside whole xs (at n)))) t in
+        let out = not-true (list_any (holding holds at p) (holes_of inside whole xs (at n))) both.1 in
         (low, both.0, λ j h k. under out j (both_of n j p low h both.0 k))
       where
-        under : any_of (holding holds at p) (holes_of inside whole xs (at n)) ≡ false → (j : ℕ) → (l : ℕ) × (l < length xs) × (holds (at l) p ≡ true) × (inside (at l) (at n) ≡ true) × (inside (at l) (at j) ≡ true) → inside (at n) (at j) ≡ true
+        under : list_any (holding holds at p) (holes_of inside whole xs (at n)) ≡ false → (j : ℕ) → (l : ℕ) × (l < length xs) × (holds (at l) p ≡ true) × (inside (at l) (at n) ≡ true) × (inside (at l) (at j) ≡ true) → inside (at n) (at j) ≡ true
         under out j l =
             elim (cases_Bool (inside (at n) (at l.0))) [
               | inl i ↦ inside_on laws (at n) (at l.0) (at j) i l.4
@@ -94,7 +95,7 @@ module _ {R P : Type 0} {whole : R} {first : P} {axes : ℕ} {holds : R → P �
   -- the least region's cell has the point
   pub least_in_cell : (n : ℕ) (p : P) → Least n p → in_cell holds at (cell_of n) p ≡ true
   least_in_cell n p least =
-      and_from (holding holds at p n) (not (any_of (holding holds at p) (holes_of inside whole xs (at n)))) least.1
+      and_from (holding holds at p n) (not (list_any (holding holds at p) (holes_of inside whole xs (at n)))) least.1
       (ap not (none_passes (holding holds at p) (holes_of inside whole xs (at n)) (λ h m. outside h (hole_within laws xs (at n) h m) (holds (at h) p) refl)))
     where
       outside : (h : ℕ) → (h < length xs) × (strictly inside (at h) (at n) ≡ true) → (b : Bool) → holds (at h) p ≡ b → b ≡ false

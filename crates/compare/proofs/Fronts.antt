@@ -1,5 +1,5 @@
 -- Lists written one after the other at the front of lent places.
-use Rattle.std.proofs.Common.{◌≡◌, ℕ, ◌+◌, ◌-◌, ◌<◌, ◌≤◌, List, [], ◌∷◌, ◌++◌, length, get_or, take, drop, set, replicate, Some, None, fold, Option, sym, refl, ap, ◌∙◌, subst, append_assoc, add-one, arith, length-append, length-drop, take-append-drop, length-take}
+use Rattle.std.proofs.Common.{◌≡◌, ℕ, ◌+◌, ◌-◌, ◌<◌, ◌≤◌, List, [], ◌∷◌, ◌++◌, length, get_or, take, drop, set, replicate, Some, None, fold, Option, sym, refl, ap, ◌∙◌, subst, append_assoc, append-nil, add-one, arith, length-append, length-drop, take-append-drop, length-take}
 use Rattle.std.proofs.lemmas.List.{take_at, drop_at, drop-drop, take-append-le, get_or_append_left, set_split, take_all, length-replicate, get_or-replicate}
 use borrow.Rule.Slice.PartMut.{put_mid, post_of}
 use Rattle.std.proofs.lemmas.Slice.{put_mid-paste}
@@ -79,16 +79,8 @@ module _ {X : Type 0} where
     written_stop i new w = written-short old _ _ new w (folded_front f adds start i ys)
 
   -- the first element, and behind it a part that was lent and written
-  pub written_behind : (places part : List X) (x : X) (n k : ℕ) → 0 < length places → x ≡ get_or places 0 x → n ≤ length part → take (n + 1) (put_mid 1 k places part) ≡ x ∷ take n part
-  written_behind [] part x n k some e fits = absurd (omega arith)
-  written_behind (y ∷ ys) part x n k some e fits =
-      ap (λ m. take m (y ∷ (part ++ post_of 1 k (y ∷ ys)))) (add-one n) ∙ ap (λ l. y ∷ l) (take-append-le n part (post_of 1 k (y ∷ ys)) fits) ∙ ap (λ z. z ∷ take n part) (sym e)
-
-  -- the same where the places were filled with one value, as a lent part reads them
-  pub filled_behind : (size : ℕ) (part : List X) (x : X) (n k : ℕ) → 0 < size → n ≤ length part → take (n + 1 - 0) (drop 0 (put_mid 1 k (replicate size x) part)) ≡ x ∷ take n part
-  filled_behind size part x n k some fits =
-      let long = length-replicate size x in
-      lent_front (n + 1) (put_mid 1 k (replicate size x) part) ∙ written_behind (replicate size x) part x n k (omega arith) (sym (get_or-replicate size 0 x x some)) fits
+  pub written_behind : (x : X) (part : List X) (n : ℕ) → take (n + 1) (x ∷ (part ++ [])) ≡ x ∷ take n part
+  written_behind x part n = ap (λ k. take k (x ∷ (part ++ []))) (add-one n) ∙ ap (λ l. x ∷ take n l) (append-nil part)
 
   -- a list copied into a part that was lent, behind what stands before it
   pub written_part : (old part xs : List X) (from n : ℕ) → from + n ≤ length old → part ≡ xs → n ≡ length xs → Written old (take from old ++ xs) (Some (from + n)) (put_mid from (from + n - from) old part)

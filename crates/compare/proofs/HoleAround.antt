@@ -5,7 +5,7 @@ use mathlib.Core.List.{Memᴰ}
 use Rattle.std.proofs.lemmas.List.Sums.{sum_by-cons}
 use Rattle.std.proofs.lemmas.Bool.{and_parts, both_ways, cases_Bool}
 use Rattle.family.specs.Families.{FamilyLaws}
-use Rattle.family.specs.Lists.{any_of}
+use Rattle.std.specs.List.{list_any}
 use Rattle.family.specs.declared.edges.Edge.{Edge}
 use Rattle.compare.specs.Cells.{region_at, numbers, strictly, below, above, topmost, outermost, nested, holes_of}
 use Rattle.compare.proofs.Insides.{inside_itself, inside_on, strictly_on, strictly-never}
@@ -47,7 +47,7 @@ module _ {R P : Type 0} {whole : R} {first : P} {axes : ℕ} {holds : R → P �
   outer_around : (ns : List ℕ) (turns n : ℕ) → Memᴰ n ns → count_by (above inside at (at n)) ns < turns → (h : ℕ) × Memᴰ h (outermost inside at ns) × (inside (at n) (at h) ≡ true)
   outer_around ns zero n m few = absurd (omega arith)
   outer_around ns (suc turns) n m few =
-      elim (cases_Bool (any_of (above inside at (at n)) ns)) [
+      elim (cases_Bool (list_any (above inside at (at n)) ns)) [
         | inl t ↦
             (let k = any_from (above inside at (at n)) ns t in
             let less = count-more (above inside at (at k.0)) (above inside at (at n)) (λ x h. strictly_on laws (at n) (at k.0) (at x) k.2 h) k.0 (strictly-never laws (at k.0)) k.2 ns k.1 in

@@ -43,3 +43,11 @@ numbers_at xs i h = numbers_on xs i (drop i xs) refl h ∙ ap (λ k. i ∷ numbe
 
 pub numbers-end : {X : Type 0} (xs : List X) (i : ℕ) → length xs ≤ i → numbers i (drop i xs) ≡ []
 numbers-end xs i h = ap (numbers i) (drop_all i xs h)
+
+-- numbers that count up from i, as many as a list has elements
+pub counted : {X : Type 0} (ns : List ℕ) (xs : List X) (i : ℕ) → length xs ≤ length ns → ((k : ℕ) → k < length ns → get_or ns k 0 ≡ i + k) → take (length xs) ns ≡ numbers i xs
+counted ns [] i h e = refl
+counted [] (x ∷ xs) i h e = absurd (omega arith)
+counted (n ∷ ns) (x ∷ xs) i h e =
+    let here : n ≡ i = omega (arith, e 0 (omega arith)) in
+    ap (λ k. k ∷ take (length xs) ns) here ∙ ap (λ l. i ∷ l) (counted ns xs (suc i) (omega arith) (λ k l. omega (arith, e (suc k) (omega arith))))

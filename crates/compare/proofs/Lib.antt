@@ -14,6 +14,7 @@ pub mod Insides
 pub mod Kept
 pub mod LaidHoles
 pub mod LaidOut
+pub mod ListWritten
 pub mod Meetings
 pub mod Members
 pub mod Occupied

@@ -4,7 +4,7 @@ use mathlib.Core.List.Memᴰ
 use mathlib.Core.List.{Memᴰ}
 use Rattle.std.specs.List.{AllByRecursion, slice_get}
 use Rattle.std.proofs.lemmas.Bool.{or_left, or_right, or_cases, or_parts, cases_eq, false≢true}
-use Rattle.family.specs.Lists.{any_of}
+use Rattle.std.specs.List.{list_any}
 use Rattle.compare.specs.Cells.{numbers}
 
 -- nothing is something
@@ -59,23 +59,23 @@ module _ {X : Type 0} where
 
   module _ (p : X → Bool) where
     -- some element passes
-    pub any_from : (xs : List X) → any_of p xs ≡ true → (x : X) × Memᴰ x xs × (p x ≡ true)
+    pub any_from : (xs : List X) → list_any p xs ≡ true → (x : X) × Memᴰ x xs × (p x ≡ true)
     any_from [] t = let z : ◌≡◌ {A = ℕ} 0 1 = cc in absurd (omega arith)
-    any_from (x ∷ xs) t = elim (or_cases (p x) (any_of p xs) t) [ inl here ↦ (x, Memᴰ.head refl, here) | inr more ↦ (let s = any_from xs more in (s.0, Memᴰ.tail s.1, s.2)) ]
+    any_from (x ∷ xs) t = elim (or_cases (p x) (list_any p xs) t) [ inl here ↦ (x, Memᴰ.head refl, here) | inr more ↦ (let s = any_from xs more in (s.0, Memᴰ.tail s.1, s.2)) ]
 
-    pub any_by : (x : X) (xs : List X) → Memᴰ x xs → p x ≡ true → any_of p xs ≡ true
+    pub any_by : (x : X) (xs : List X) → Memᴰ x xs → p x ≡ true → list_any p xs ≡ true
     any_by x [] m t = absurd (Memᴰ.not-nil m)
-    any_by x (y ∷ ys) m t = elim (Memᴰ.cases_cons m) [ inl e ↦ or_left (p y) (any_of p ys) (sym (ap p e) ∙ t) | inr n ↦ or_right (p y) (any_of p ys) (any_by x ys n t) ]
+    any_by x (y ∷ ys) m t = elim (Memᴰ.cases_cons m) [ inl e ↦ or_left (p y) (list_any p ys) (sym (ap p e) ∙ t) | inr n ↦ or_right (p y) (list_any p ys) (any_by x ys n t) ]
 
-    pub any_not : (x : X) (xs : List X) → any_of p xs ≡ false → Memᴰ x xs → p x ≡ false
+    pub any_not : (x : X) (xs : List X) → list_any p xs ≡ false → Memᴰ x xs → p x ≡ false
     any_not x [] f m = absurd (Memᴰ.not-nil m)
     any_not x (y ∷ ys) f m =
-        let both = or_parts (p y) (any_of p ys) f in
+        let both = or_parts (p y) (list_any p ys) f in
         elim (Memᴰ.cases_cons m) [ inl e ↦ ap p e ∙ both.0 | inr n ↦ any_not x ys both.1 n ]
 
-    pub none_passes : (xs : List X) → ((x : X) → Memᴰ x xs → p x ≡ false) → any_of p xs ≡ false
+    pub none_passes : (xs : List X) → ((x : X) → Memᴰ x xs → p x ≡ false) → list_any p xs ≡ false
     none_passes [] each = refl
-    none_passes (x ∷ xs) each = ap (λ b. b || any_of p xs) (each x (Memᴰ.head refl)) ∙ none_passes xs (λ y m. each y (Memᴰ.tail m))
+    none_passes (x ∷ xs) each = ap (λ b. b || list_any p xs) (each x (Memᴰ.head refl)) ∙ none_passes xs (λ y m. each y (Memᴰ.tail m))
 
     -- what a filter keeps
     kept_either : (x y : X) (ks : List X) (b : Bool) → Memᴰ x (cond b (y ∷ ks) ks) → ((x ≡ y) × (b ≡ true)) ⊎ Memᴰ x ks

@@ -4,7 +4,7 @@ use mathlib.Core.List.Memᴰ
 use mathlib.Core.List.{Memᴰ}
 use Rattle.std.proofs.lemmas.Bool.{or_left, or_right, or_cases}
 use Rattle.family.specs.Families.{FamilyLaws, Choice, still, toward, walked, AllFrom}
-use Rattle.family.specs.Lists.{any_of}
+use Rattle.std.specs.List.{list_any}
 use Rattle.family.specs.declared.edges.Edge.{Edge}
 use Rattle.family.specs.declared.edges.Edge.TheVariants.{Near, Far}
 use Rattle.compare.specs.Cells.{holding, in_cell, reaches, reaches_by, occupied}
@@ -15,7 +15,7 @@ module _ {R P : Type 0} (shifted : P → ℕ → Edge → R → P) (at : ℕ →
   reached_passes : (n axis : ℕ) (p : P) → reaches shifted at test ns n axis p ≡ true → (q : P) × (test q ≡ true)
   reached_passes zero axis p t = (p, t)
   reached_passes (suc n) axis p t =
-      elim (or_cases (reaches shifted at test ns n (axis + 1) p) (any_of (reaches_by shifted at test ns n axis p) ns) t) [
+      elim (or_cases (reaches shifted at test ns n (axis + 1) p) (list_any (reaches_by shifted at test ns n axis p) ns) t) [
         | inl here ↦ reached_passes n (axis + 1) p here
         | inr by ↦
             (let k = any_from (reaches_by shifted at test ns n axis p) ns by in
@@ -41,14 +41,14 @@ module _ {R P : Type 0} (shifted : P → ℕ → Edge → R → P) (at : ℕ →
 
 -- points held by the same regions of a cell are both in it or both not
 module _ {R P : Type 0} (holds : R → P → Bool) (at : ℕ → R) where
-  any_same : (ns : List ℕ) (p q : P) → ((r : R) → Memᴰ r (map at ns) → holds r p ≡ holds r q) → any_of (holding holds at p) ns ≡ any_of (holding holds at q) ns
+  any_same : (ns : List ℕ) (p q : P) → ((r : R) → Memᴰ r (map at ns) → holds r p ≡ holds r q) → list_any (holding holds at p) ns ≡ list_any (holding holds at q) ns
   any_same [] p q each = refl
-  any_same (n ∷ ns) p q each = ap (λ b. b || any_of (holding holds at p) ns) (each (at n) (Memᴰ.head refl)) ∙ ap (λ b. holds (at n) q || b) (any_same ns p q (λ r m. each r (Memᴰ.tail m)))
+  any_same (n ∷ ns) p q each = ap (λ b. b || list_any (holding holds at p) ns) (each (at n) (Memᴰ.head refl)) ∙ ap (λ b. holds (at n) q || b) (any_same ns p q (λ r m. each r (Memᴰ.tail m)))
 
   cell_same : (cell : List ℕ) (p q : P) → ((r : R) → Memᴰ r (map at cell) → holds r p ≡ holds r q) → in_cell holds at cell p ≡ in_cell holds at cell q
   cell_same [] p q each = refl
   cell_same (own ∷ holes) p q each =
-      ap (λ b. b && not (any_of (holding holds at p) holes)) (each (at own) (Memᴰ.head refl)) ∙ ap (λ b. holds (at own) q && not b) (any_same holes p q (λ r m. each r (Memᴰ.tail m)))
+      ap (λ b. b && not (list_any (holding holds at p) holes)) (each (at own) (Memᴰ.head refl)) ∙ ap (λ b. holds (at own) q && not b) (any_same holes p q (λ r m. each r (Memᴰ.tail m)))
 
 module _ {R P : Type 0} {whole : R} {first : P} {axes : ℕ} {holds : R → P → Bool} {inside : R → R → Bool} {meet : R → R → Option R} {shifted : P → ℕ → Edge → R → P} (laws : FamilyLaws whole first axes holds inside meet shifted) (at : ℕ → R) (cell : List ℕ) where
   pub occupied_point : occupied first axes holds shifted at cell ≡ true → (q : P) × (in_cell holds at cell q ≡ true)

@@ -1,6 +1,9 @@
--- A row put in its place among ordered ones.
-use Rattle.std.proofs.Common.{◌≡◌, ℕ, ◌+◌, ◌<◌, ◌≤◌, Bool, true, cond, ◌&&◌, ltb, leb, List, ◌++◌, length, take, drop, ap, ◌∙◌, arith, length-take}
-use Rattle.std.specs.List.{insert}
+-- A row's place among ordered ones, and the row put there.
+use Rattle.std.proofs.Common.{◌≡◌, ℕ, ◌+◌, ◌<◌, ◌≤◌, Bool, true, cond, ◌&&◌, ltb, leb, List, ◌++◌, length, take, drop, Option, refl, ap, ◌∙◌, arith, length-take}
+use Rattle.std.specs.List.{insert, position, position_or_len}
+use Rattle.std.specs.Option.{unwrap_or}
+use Rattle.std.proofs.lemmas.Grind.{common_steps}
+use Rattle.std.proofs.lemmas.List.Recursion.{is_position_or_len}
 use Rattle.std.proofs.lemmas.List.Edits.{length-insert}
 use Rattle.std.proofs.lemmas.List.{take_at}
 use Rattle.std.proofs.lemmas.Bool.{and_from, le-leb, lt-ltb}
@@ -8,6 +11,13 @@ use Rattle.family.specs.Lists.{first_where}
 use Rattle.family.proofs.Searches.{first-bound}
 use Rattle.compare.specs.declared.rows.Row.{Row}
 use Rattle.compare.specs.Rows.{precedes, ranked}
+
+-- the place that a look through a list finds, or the end
+pub place_found : {X : Type 0} (p : X → Bool) (xs : List X) (r : Option ℕ) → r ≡ position p xs → unwrap_or r (length xs) ≡ first_where p xs
+place_found p xs r e =
+    let first : first_where p xs ≡ position_or_len p xs = is_position_or_len (first_where p) p refl (λ y ys. ap (cond (p y) 0) (omega arith)) xs in
+    let low = first-bound p xs in
+    ap (λ o. unwrap_or o (length xs)) e ∙ grind (arith, common_steps)
 
 module _ (found : List Row) (count : ℕ) (row : Row) (fits : count < length found) where
   long : length (take count found) ≡ count

@@ -1,23 +1,62 @@
 -- Points of a cell, and those that shifts reach.
-use Rattle.std.proofs.Common.{◌≡◌, ℕ, zero, suc, ◌+◌, ◌-◌, ◌<◌, Bool, true, false, not, ◌&&◌, ◌||◌, List, [], ◌∷◌, length, get_or, drop, sym, refl, ap, ◌∙◌, arith}
-use Rattle.std.proofs.lemmas.List.{nil_from_length, drop_more}
+use Rattle.std.proofs.Common.{◌≡◌, ℕ, zero, suc, ◌+◌, ◌-◌, ◌<◌, ◌≤◌, Bool, true, false, not, ◌&&◌, ◌||◌, List, [], ◌∷◌, length, get_or, take, drop, sym, refl, ap, ◌∙◌, arith}
+use Rattle.std.proofs.Math.Bool.{or-false}
+use Rattle.std.proofs.lemmas.List.{nil_from_length, drop_more, take_all}
+use Rattle.std.proofs.lemmas.List.Folds.{list_any_at, list_any_more}
 use Rattle.std.proofs.lemmas.Bool.{or_left, or_right, or_from}
-use Rattle.family.specs.Lists.{any_of}
+use Rattle.std.specs.List.{list_any}
 use Rattle.family.specs.declared.edges.Edge.{Edge}
-use Rattle.family.specs.declared.edges.Edge.TheVariants.{Near}
+use Rattle.family.specs.declared.edges.Edge.TheVariants.{Near, Far}
 use Rattle.compare.specs.Cells.{holding, in_cell, reaches, reaches_by, cornered, occupied}
 
 -- a cell that is not empty opens with its region
-pub in_cell_at : {R P : Type 0} (holds : R → P → Bool) (at : ℕ → R) (cell : List ℕ) (p : P) → 0 < length cell → in_cell holds at cell p ≡ (holding holds at p (get_or cell 0 0) && not (any_of (holding holds at p) (drop 1 cell)))
+pub in_cell_at : {R P : Type 0} (holds : R → P → Bool) (at : ℕ → R) (cell : List ℕ) (p : P) → 0 < length cell → in_cell holds at cell p ≡ (holding holds at p (get_or cell 0 0) && not (list_any (holding holds at p) (drop 1 cell)))
 in_cell_at holds at cell p h = ap (λ l. in_cell holds at l p) (drop_more cell 0 0 h)
 
 module _ {R P : Type 0} (shifted : P → ℕ → Edge → R → P) (at : ℕ → R) (test : P → Bool) (ns : List ℕ) where
+  -- the same when the first shift goes to the given edge of a region
+  abbrev pub reaches_along : ℕ → ℕ → P → R → Edge → Bool
+  reaches_along n axis p r e = reaches shifted at test ns n (axis + 1) (shifted p axis e r)
+
+  module _ (n axis : ℕ) (p : P) where
+    abbrev by : ℕ → Bool
+    by = reaches_by shifted at test ns n axis p
+
+    abbrev along : R → Edge → Bool
+    along = reaches_along n axis p
+
+    either_edge : (k : ℕ) → list_any (along (at k)) (Near ∷ Far ∷ []) ≡ by k
+    either_edge k = ap (λ b. along (at k) Near || b) (or-false (along (at k) Far))
+
+    -- the edge at place i of a region leads there
+    pub edge_leads : (k i : ℕ) (r : R) (q : P) → i < 2 → r ≡ at k → q ≡ shifted p axis (get_or (Near ∷ Far ∷ []) i Near) r → reaches shifted at test ns n (axis + 1) q ≡ true → by k ≡ true
+    edge_leads k i r q h e f t =
+        sym (either_edge k) ∙ list_any_at (along (at k)) (Near ∷ Far ∷ []) i Near h (ap (λ x. along x (get_or (Near ∷ Far ∷ []) i Near)) (sym e) ∙ ap (reaches shifted at test ns n (axis + 1)) (sym f) ∙ t)
+
+    -- one edge more that does not
+    pub edge_left : (i : ℕ) (r : R) (q : P) → i < 2 → q ≡ shifted p axis (get_or (Near ∷ Far ∷ []) i Near) r → reaches shifted at test ns n (axis + 1) q ≡ false → list_any (along r) (take i (Near ∷ Far ∷ [])) ≡ false → list_any (along r) (take (i + 1) (Near ∷ Far ∷ [])) ≡ false
+    edge_left i r q h f t none = list_any_more (along r) (Near ∷ Far ∷ []) i Near h ∙ or_from _ _ none (ap (reaches shifted at test ns n (axis + 1)) (sym f) ∙ t)
+
+    -- one region more that does not
+    pub region_left : (j i : ℕ) (r : R) → j < length ns → 2 ≤ i → r ≡ at (get_or ns j 0) → list_any (along r) (take i (Near ∷ Far ∷ [])) ≡ false → list_any by (take j ns) ≡ false → list_any by (take (j + 1) ns) ≡ false
+    region_left j i r h past e neither none =
+        let k = get_or ns j 0 in
+        list_any_more by ns j 0 h
+        ∙ or_from _ _ none (sym (either_edge k) ∙ ap (λ x. list_any (along x) (Near ∷ Far ∷ [])) (sym e) ∙ ap (list_any (along r)) (sym (take_all i (Near ∷ Far ∷ []) past)) ∙ neither)
+
   -- no shift along the first axis, or one to an edge
-  pub reaches_by_first : (n axis : ℕ) (p : P) → 0 < n → reaches shifted at test ns n axis p ≡ (reaches shifted at test ns (n - 1) (axis + 1) p || any_of (reaches_by shifted at test ns (n - 1) axis p) ns)
+  reaches_by_first : (n axis : ℕ) (p : P) → 0 < n → reaches shifted at test ns n axis p ≡ (reaches shifted at test ns (n - 1) (axis + 1) p || list_any (reaches_by shifted at test ns (n - 1) axis p) ns)
   reaches_by_first zero axis p h = absurd (omega arith)
   reaches_by_first (suc m) axis p h =
       let back : m ≡ suc m - 1 = omega arith in
-      ap (λ k. reaches shifted at test ns k (axis + 1) p || any_of (reaches_by shifted at test ns k axis p) ns) back
+      ap (λ k. reaches shifted at test ns k (axis + 1) p || list_any (reaches_by shifted at test ns k axis p) ns) back
+
+  pub number_leads : (n axis : ℕ) (p : P) (j : ℕ) → 0 < n → j < length ns → reaches_by shifted at test ns (n - 1) axis p (get_or ns j 0) ≡ true → true ≡ reaches shifted at test ns n axis p
+  number_leads n axis p j some h t = sym (reaches_by_first n axis p some ∙ or_right _ _ (list_any_at (reaches_by shifted at test ns (n - 1) axis p) ns j 0 h t))
+
+  pub none_leads : (n axis : ℕ) (p : P) (j : ℕ) → 0 < n → length ns ≤ j → reaches shifted at test ns (n - 1) (axis + 1) p ≡ false → list_any (reaches_by shifted at test ns (n - 1) axis p) (take j ns) ≡ false → false ≡ reaches shifted at test ns n axis p
+  none_leads n axis p j some past still none =
+      sym (reaches_by_first n axis p some ∙ or_from _ _ still (ap (list_any (reaches_by shifted at test ns (n - 1) axis p)) (sym (take_all j ns past)) ∙ none))
 
 -- one axis less of a near corner
 pub cornered_by_first : {R P : Type 0} (shifted : P → ℕ → Edge → R → P) (r : R) (n axis : ℕ) (p : P) → 0 < n → cornered shifted r n axis p ≡ cornered shifted r (n - 1) (axis + 1) (shifted p axis Near r)
@@ -31,7 +70,7 @@ pub corner-reached : {R P : Type 0} (shifted : P → ℕ → Edge → R → P) (
 corner-reached shifted at test own rest zero axis p t = t
 corner-reached shifted at test own rest (suc n) axis p t =
     let next = corner-reached shifted at test own rest n (axis + 1) (shifted p axis Near (at own)) t in
-    or_right (reaches shifted at test (own ∷ rest) n (axis + 1) p) _ (or_left _ (any_of (reaches_by shifted at test (own ∷ rest) n axis p) rest) (or_left _ _ next))
+    or_right (reaches shifted at test (own ∷ rest) n (axis + 1) p) _ (or_left _ (list_any (reaches_by shifted at test (own ∷ rest) n axis p) rest) (or_left _ _ next))
 
 -- no point lies in a cell without a region
 pub none-reached : {R P : Type 0} (holds : R → P → Bool) (shifted : P → ℕ → Edge → R → P) (at : ℕ → R) (n axis : ℕ) (p : P) → reaches shifted at (in_cell holds at []) [] n axis p ≡ false

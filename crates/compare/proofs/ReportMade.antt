@@ -13,14 +13,6 @@ use Rattle.compare.specs.Rows.{laid, rows_found, holes_of_rows}
 use Rattle.compare.proofs.HoleTotals.{holes-laid, found_total}
 use Rattle.compare.proofs.LaidOut.{hole_count, length-laid}
 
--- the rows found over clauses and defaults that are known by equations
-pub found-over : {R P A : Type 0} (whole : R) (first : P) (axes : ℕ) (holds : R → P → Bool) (inside : R → R → Bool) (shifted : P → ℕ → Edge → R → P) (alike : A → A → Bool) (xs : List R) {left left' right right' : List (Clause R A)} {ld ld' rd rd' : A} → left ≡ left' → ld ≡ ld' → right ≡ right' → rd ≡ rd' → rows_found whole first axes holds inside shifted alike xs left ld right rd ≡ rows_found whole first axes holds inside shifted alike xs left' ld' right' rd'
-found-over whole first axes holds inside shifted alike xs {left} {left'} {right} {right'} {ld} {ld'} {rd} {rd'} a b c d =
-    ap (λ x. rows_found whole first axes holds inside shifted alike xs x ld right rd) a
-    ∙ ap (λ x. rows_found whole first axes holds inside shifted alike xs left' x right rd) b
-    ∙ ap (λ x. rows_found whole first axes holds inside shifted alike xs left' ld' x rd) c
-    ∙ ap (λ x. rows_found whole first axes holds inside shifted alike xs left' ld' right' x) d
-
 module _ {R P A : Type 0} (whole : R) (first : P) (axes : ℕ) (holds : R → P → Bool) (inside : R → R → Bool) (meet : R → R → Option R) (shifted : P → ℕ → Edge → R → P) (alike : A → A → Bool) (left right : View R A) (xs : List R) (found : List Row) (is : found ≡ rows_found whole first axes holds inside shifted alike xs left.clauses left.default right.clauses right.default) where
   abbrev rows_here : List Row
   rows_here = rows_in whole first axes holds inside meet shifted alike left right xs

@@ -5,7 +5,7 @@ use Rattle.std.specs.List.{slice_get}
 use Rattle.std.proofs.lemmas.Bool.{cases_order, cases_Bool, both_ways}
 use Rattle.family.specs.Clauses.{action_at}
 use Rattle.family.specs.Families.{FamilyLaws}
-use Rattle.family.specs.Lists.{any_of}
+use Rattle.std.specs.List.{list_any}
 use Rattle.family.specs.declared.clauses.Clause.{Clause}
 use Rattle.family.specs.declared.edges.Edge.{Edge}
 use Rattle.compare.specs.declared.rows.Row.{Row}
@@ -75,7 +75,7 @@ module _ {R P : Type 0} {whole : R} {first : P} {axes : ℕ} {holds : R → P �
 
   -- so that it holds the points of its region's cell
   row_cell : (k : ℕ) (row : Row) (p : P) → slice_get rows k ≡ Some row → row_holds holds whole xs holes row p ≡ in_cell holds at (cell_of laws xs row.region) p
-  row_cell k row p is = ap (λ hs. holds (at row.region) p && not (any_of (λ n. holds (at n) p) hs)) (row_holes k row is)
+  row_cell k row p is = ap (λ hs. holds (at row.region) p && not (list_any (λ n. holds (at n) p) hs)) (row_holes k row is)
 
   cell_lies : (k : ℕ) (row : Row) (p : P) → slice_get rows k ≡ Some row → in_cell holds at (cell_of laws xs row.region) p ≡ true → Here k row p
   cell_lies k row p is t = (is, row_cell k row p is ∙ t)

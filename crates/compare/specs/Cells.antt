@@ -1,8 +1,12 @@
 -- A region's holes and its cell: the points of the region outside all its holes. Regions go by their numbers in the list.
-use Rattle.std.specs.Prelude.{ℕ, zero, suc, ◌+◌, Bool, false, not, ◌&&◌, ◌||◌, List, [], ◌∷◌, filter, slice_index_or}
-use Rattle.family.specs.Lists.{any_of}
+use Rattle.std.specs.Prelude.{◌≡◌, ℕ, zero, suc, ◌+◌, ◌^◌, ◌<◌, Bool, false, not, ◌&&◌, ◌||◌, List, [], ◌∷◌, filter, slice_index_or}
+use Rattle.std.specs.List.{list_any}
 use Rattle.family.specs.declared.edges.Edge.{Edge}
 use Rattle.family.specs.declared.edges.Edge.TheVariants.{Near, Far}
+
+-- each answer to a number is the one given
+abbrev pub AnswersBy : (ℕ → Bool) → (ℕ → Bool → Type 0) → Type 0
+AnswersBy passes answers = (n : ℕ) (b : Bool) → n < 2 ^ 64 → answers n b → b ≡ passes n
 
 -- the region with a number; the whole region stands for a number that none has
 abbrev pub region_at : {R : Type 0} → R → List R → ℕ → R
@@ -26,7 +30,7 @@ module _ {R : Type 0} (inside : R → R → Bool) (at : ℕ → R) where
 
   -- of some regions, a region is strictly inside none
   abbrev pub topmost : List ℕ → ℕ → Bool
-  topmost others n = not (any_of (above (at n)) others)
+  topmost others n = not (list_any (above (at n)) others)
 
   abbrev pub outermost : List ℕ → List ℕ
   outermost ns = filter (topmost ns) ns
@@ -46,13 +50,13 @@ module _ {R P : Type 0} (holds : R → P → Bool) (at : ℕ → R) where
 
   abbrev pub in_cell : List ℕ → P → Bool
   in_cell [] p = false
-  in_cell (own ∷ holes) p = holding p own && not (any_of (holding p) holes)
+  in_cell (own ∷ holes) p = holding p own && not (list_any (holding p) holes)
 
 module _ {R P : Type 0} (shifted : P → ℕ → Edge → R → P) (at : ℕ → R) (test : P → Bool) (ns : List ℕ) where
   -- some point passes that is reached by no shift, or a shift to an edge of one of the regions, along each of n axes from the given one
   abbrev pub reaches : ℕ → ℕ → P → Bool
   reaches zero axis p = test p
-  reaches (suc n) axis p = reaches n (axis + 1) p || any_of (λ k. reaches n (axis + 1) (shifted p axis Near (at k)) || reaches n (axis + 1) (shifted p axis Far (at k))) ns
+  reaches (suc n) axis p = reaches n (axis + 1) p || list_any (λ k. reaches n (axis + 1) (shifted p axis Near (at k)) || reaches n (axis + 1) (shifted p axis Far (at k))) ns
 
   -- the same when the first shift goes to an edge of the region with the given number
   abbrev pub reaches_by : ℕ → ℕ → P → ℕ → Bool

@@ -2,6 +2,7 @@ pub mod Answered
 pub mod Cells
 pub mod Compared
 pub mod Declines
+pub mod Growing
 pub mod Meets
 pub mod Regions
 pub mod Reported

@@ -1,6 +1,6 @@
 -- The region list of two filters: the whole region, the clauses' regions and the meets, each put at the end unless it stands.
 use Rattle.std.specs.Prelude.{ℕ, zero, suc, Bool, cond, ◌&&◌, List, [], ◌∷◌, ◌++◌, take, drop, Some, None, fold, Option}
-use Rattle.family.specs.Lists.{any_of}
+use Rattle.std.specs.List.{list_any}
 use Rattle.family.specs.declared.clauses.Clause.{Clause}
 
 module _ {R : Type 0} (inside : R → R → Bool) where
@@ -9,7 +9,7 @@ module _ {R : Type 0} (inside : R → R → Bool) where
   same a b = inside a b && inside b a
 
   abbrev pub stands : R → List R → Bool
-  stands r xs = any_of (same r) xs
+  stands r xs = list_any (same r) xs
 
   -- a region put at the end unless it stands
   abbrev pub put : List R → R → List R

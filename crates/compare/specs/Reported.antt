@@ -3,7 +3,8 @@ use Rattle.std.specs.Prelude.{◌≡◌, ℕ, ◌+◌, ◌<◌, ◌≤◌, Bool,
 use mathlib.Core.List.{Memᴰ}
 use Rattle.std.specs.List.{slice_get}
 use Rattle.family.specs.Clauses.{action_at}
-use Rattle.family.specs.Lists.{any_of, first_where}
+use Rattle.std.specs.List.{list_any}
+use Rattle.family.specs.Lists.{first_where}
 use Rattle.family.specs.declared.clauses.Clause.{Clause}
 use Rattle.compare.specs.declared.rows.Row.{Row}
 use Rattle.compare.specs.Cells.{region_at, strictly}
@@ -38,7 +39,7 @@ module _ {R P : Type 0} (holds : R → P → Bool) where
 
   -- a row holds the points of its region outside its holes
   abbrev pub row_holds : R → List R → List ℕ → Row → P → Bool
-  row_holds whole regions holes row p = holds (region_at whole regions row.region) p && not (any_of (λ n. holds (region_at whole regions n) p) (read_holes holes row))
+  row_holds whole regions holes row p = holds (region_at whole regions row.region) p && not (list_any (λ n. holds (region_at whole regions n) p) (read_holes holes row))
 
 module _ {R P A : Type 0} (whole : R) (holds : R → P → Bool) (inside : R → R → Bool) (alike : A → A → Bool) (left : List (Clause R A)) (left-default : A) (right : List (Clause R A)) (right-default : A) (regions : List R) (rows : List Row) (holes : List ℕ) where
   abbrev pub Unlike : P → Type 0

@@ -4,10 +4,11 @@ ghost use Rattle.filter.specs.States.{sealed_view};
 ghost use Rattle.compare.specs.Answered.{Rightly};
 ghost use Rattle.compare.specs.Compared.{unless_declined, list_for, rows_in, holes_in, report_on, outcome, regions_after};
 
+use crate::cells::{Listed, MOST_REGIONS};
 use crate::regions::gather;
 use crate::reports::{Declined, Report};
-use crate::rows::{Row, count_holes, find_rows, lay_rows, write_holes};
-use family::{ActionKind, Clause, Family};
+use crate::rows::{Row, count_holes, lay_rows};
+use family::{ActionKind, Family};
 use filter::Sealed;
 
 // A family with more axes is not compared.
@@ -15,41 +16,29 @@ const MOST_AXES: u8 = 4;
 
 // The rows of a region list and their holes, or why they have no places.
 fn report_on<R: Family, A: ActionKind>(
-    listed: &[R],
+    listed: &Listed<R>,
     left: &Sealed<R, A>,
     right: &Sealed<R, A>,
     rows: &mut [Row],
     holes: &mut [usize],
 ) -> Result<Report, Declined>
-    requires { length listed.now ≤ 1024 }
-    ensures outcome { result ≡ report_on R.whole R.first R.axes R.holds R.inside R.meet R.shifted A.alike (sealed_view A.reject left.now) (sealed_view A.reject right.now) listed.now (length rows.old) (length holes.old) }
-    ensures rows { rows.new ≡ unless_declined result (rows_in R.whole R.first R.axes R.holds R.inside R.meet R.shifted A.alike (sealed_view A.reject left.now) (sealed_view A.reject right.now) listed.now) rows.old }
-    ensures holes { holes.new ≡ unless_declined result (holes_in R.whole R.first R.axes R.holds R.inside R.meet R.shifted A.alike (sealed_view A.reject left.now) (sealed_view A.reject right.now) listed.now) holes.old }
+    ensures outcome { result ≡ report_on R.whole R.first R.axes R.holds R.inside R.meet R.shifted A.alike (sealed_view A.reject left.now) (sealed_view A.reject right.now) listed.now.regions.now (length rows.old) (length holes.old) }
+    ensures rows { rows.new ≡ unless_declined result (rows_in R.whole R.first R.axes R.holds R.inside R.meet R.shifted A.alike (sealed_view A.reject left.now) (sealed_view A.reject right.now) listed.now.regions.now) rows.old }
+    ensures holes { holes.new ≡ unless_declined result (holes_in R.whole R.first R.axes R.holds R.inside R.meet R.shifted A.alike (sealed_view A.reject left.now) (sealed_view A.reject right.now) listed.now.regions.now) holes.old }
 {
-    let mut found = [Row {
-        left: 0,
-        right: 0,
-        region: 0,
-        start: 0,
-        number: 0,
-    }; 1024];
-    let count = find_rows(
-        listed,
-        left.clauses(),
-        left.default(),
-        right.clauses(),
-        right.default(),
-        &mut found,
-    );
-    if count > rows.len() {
+    let mut places = [Row::default(); MOST_REGIONS];
+    let count = listed.find_rows(left, right, &mut places);
+    let found = &mut places[..count];
+    if found.len() > rows.len() {
         return Err(Declined::NoRowPlace);
     }
-    let total = count_holes(&found[0..count]);
+    let total = count_holes(found);
     if total > holes.len() {
         return Err(Declined::NoHolePlace);
     }
-    lay_rows(&found[0..count], rows);
-    write_holes(listed, &found[0..count], holes);
+    lay_rows(found);
+    rows[..count].copy_from_slice(found);
+    listed.write_holes(found, holes);
     Ok(Report {
         regions: listed.len(),
         rows: count,
@@ -74,10 +63,8 @@ pub fn compare<R: Family, A: ActionKind>(
     if R::axis_count() > MOST_AXES {
         return Err(Declined::TooManyAxes);
     }
-    let used = regions.len().min(1024);
-    let places = &mut regions[0..used];
-    let Some(count) = gather(places, left.clauses(), right.clauses()) else {
-        return Err(Declined::NoRegionPlace);
-    };
-    report_on(&regions[0..count], left, right, rows, holes)
+    let used = regions.len().min(MOST_REGIONS);
+    let places = &mut regions[..used];
+    let count = gather(places, left.clauses(), right.clauses()).ok_or(Declined::NoRegionPlace)?;
+    report_on(&Listed::new(&regions[..count]), left, right, rows, holes)
 }

@@ -12,21 +12,16 @@ pub struct Report {
 
 #[derive(Clone, Copy, PartialEq, Eq, Debug)]
 pub enum Declined {
-    TooManyAxes,
-    NoRegionPlace,
-    NoRowPlace,
-    NoHolePlace,
+    TooManyAxes = 8,
+    NoRegionPlace = 9,
+    NoRowPlace = 10,
+    NoHolePlace = 11,
 }
 
 impl Declined {
     pub fn number(self) -> u8
         ensures { result ≡ number_of self }
     {
-        match self {
-            Declined::TooManyAxes => 8,
-            Declined::NoRegionPlace => 9,
-            Declined::NoRowPlace => 10,
-            Declined::NoHolePlace => 11,
-        }
+        self as u8
     }
 }

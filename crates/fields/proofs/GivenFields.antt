@@ -1,6 +1,6 @@
 -- Fields that have absent values, read back and written back.
 use Rattle.std.proofs.Common.{◌≡◌, ℕ, ◌+◌, ◌^◌, ◌<◌, ◌≤◌, Bool, true, false, not, eqb, List, ◌++◌, length, Ok, sym, refl, ap, ◌∙◌}
-use Rattle.std.proofs.lemmas.Bool.{eqb-true, eq-eqb}
+use Rattle.std.proofs.lemmas.Bool.{eqb-true, eq-eqb, not-true, not-false}
 use Rattle.fields.specs.Fields.{given_of, bytes_of, is_given, Octets}
 use Rattle.fields.specs.Layouts.{places_from, fields_of}
 use Rattle.fields.specs.Reading.{Read, ◌>>=◌}
@@ -8,14 +8,6 @@ use Rattle.fields.proofs.FieldBytes.{bytes_from, map_from, end_from, AllFit, fie
 use Rattle.fields.proofs.Inversion.{both_steps}
 use Rattle.fields.proofs.NumberBytes.{given_back, given-kept}
 use Rattle.fields.proofs.Seen.{same_parts}
-
-other-value : (b : Bool) → not b ≡ true → b ≡ false
-other-value true h = sym h
-other-value false h = refl
-
-equal_value : (b : Bool) → not b ≡ false → b ≡ true
-equal_value true h = refl
-equal_value false h = sym h
 
 -- a field's width, its absent value by the numbers so far, and the numbers with its value
 module _ {N : Type 0} (width : ℕ → ℕ) (absent_at : N → ℕ → ℕ) (put : N → ℕ → ℕ → N) where
@@ -32,11 +24,11 @@ module _ {N : Type 0} (width : ℕ → ℕ) (absent_at : N → ℕ → ℕ) (put
     there : (n : N) (p v : ℕ) (rest : List ℕ) → Fit p v → present n p v ≡ true → taken n p (spell p v ++ rest) ≡ Ok (put n p v, rest)
     there n p v rest fit is =
         reads n p (spell p v ++ rest)
-        ∙ ap (λ r. ◌>>=◌ r (λ q. Ok (put n p q.0, q.1))) (given_back (width p) (absent_at n p) v fit (other-value (eqb v (absent_at n p)) is) rest)
+        ∙ ap (λ r. ◌>>=◌ r (λ q. Ok (put n p q.0, q.1))) (given_back (width p) (absent_at n p) v fit (not-true (eqb v (absent_at n p)) is) rest)
 
     left_out : (n : N) (p v : ℕ) → Known n p → present n p v ≡ false → put n p v ≡ n
     left_out n p v known is =
-        ap (put n p) (eqb-true v (absent_at n p) (equal_value (eqb v (absent_at n p)) is)) ∙ stays n p known
+        ap (put n p) (eqb-true v (absent_at n p) (not-false (eqb v (absent_at n p)) is)) ∙ stays n p known
 
     kept : (n : N) (p : ℕ) (bytes : List ℕ) → Octets bytes → (m : N) (rest : List ℕ) → taken n p bytes ≡ Ok (m, rest) → KeptField present spell put n p bytes m rest
     kept n p bytes all m rest same =

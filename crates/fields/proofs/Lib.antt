@@ -8,4 +8,3 @@ pub mod Places
 pub mod RecordBytes
 pub mod Seen
 pub mod Sizes
-pub mod Spelled

@@ -1,10 +1,9 @@
 -- The bytes that a record takes, from the fields of its layout.
-use Rattle.std.proofs.Common.{◌≡◌, ℕ, zero, suc, ◌+◌, ◌*◌, true, eqb, List, [], ◌∷◌, length, get_or, Ok, Err, Result, sym, refl, ap, ◌∙◌, subst, zero-add, arith}
+use Rattle.std.proofs.Common.{◌≡◌, ℕ, zero, suc, ◌+◌, ◌*◌, true, eqb, List, [], ◌∷◌, length, get_or, Ok, Err, Result, sym, ap, ◌∙◌, zero-add, arith}
 use Rattle.supplied.specs.declared.errors.MakeError.{MakeError}
-use Rattle.fields.specs.declared.faults.RecordFault.{RecordFault}
 use Rattle.fields.specs.Fields.{spelled, field_of, given_of}
 use Rattle.fields.specs.Layouts.{LayoutOf, places_of, fields_of, numbers_of, made_of, record_of}
-use Rattle.fields.specs.Reading.{Read, ◌>>=◌, outcome_of, rest_of}
+use Rattle.fields.specs.Reading.{Read, ◌>>=◌}
 use Rattle.fields.specs.Sizes.{TookBytes}
 use Rattle.fields.proofs.Inversion.{both_steps, passed, not_refused, never-read}
 use Rattle.fields.proofs.Seen.{same_parts}
@@ -62,12 +61,6 @@ module _ {N X : Type 0} (layout : LayoutOf N X) (width size : ℕ → ℕ) (fiel
       let end = made-rest _ bytes read.0.1 x rest read.2 in
       numbers-take bytes read.0.0 read.0.1 read.1 ∙ ap (λ l. size (get_or bytes 0 0) + length l) end
 
-  pub took_bytes : (bytes : List ℕ) (r : Result X RecordFault) (rest : List ℕ) → r ≡ outcome_of (record_of layout bytes) → rest ≡ rest_of bytes (record_of layout bytes) → TookBytes size bytes r rest
-  took_bytes bytes r rest outcome behind = told (record_of layout bytes) refl
-    where
-      told : (read : Read X) → record_of layout bytes ≡ read → TookBytes size bytes r rest
-      told (Ok p) is =
-          let front : r ≡ Ok p.0 = outcome ∙ ap outcome_of is in
-          let end : rest ≡ p.1 = behind ∙ ap (rest_of bytes) is in
-          subst (λ a. TookBytes size bytes a rest) (sym front) (record_takes bytes p.0 rest (is ∙ ap (λ l. Ok (p.0, l)) (sym end)))
-      told (Err fault) is = let front : r ≡ Err fault = outcome ∙ ap outcome_of is in subst (λ a. TookBytes size bytes a rest) (sym front) tt
+  pub took_bytes : (bytes : List ℕ) (read : Read X) → read ≡ record_of layout bytes → TookBytes size bytes read
+  took_bytes bytes (Ok p) is = record_takes bytes p.0 p.1 (sym is)
+  took_bytes bytes (Err fault) is = tt

@@ -11,10 +11,14 @@ abbrev pub ◌>>=◌ : {X Y E : Type 0} → Result X E → (X → Result Y E) �
 ◌>>=◌ (Ok x) next = next x
 ◌>>=◌ (Err fault) next = Err fault
 
+-- an answer of the code, what was read seen by its meaning, and its rest as the bytes that it holds
+abbrev pub seen_as : {X Y E : Type 0} → (X → Y) → Result (X × Bor (List ℕ)) E → Result (Y × List ℕ) E
+seen_as meaning (Ok p) = Ok (meaning p.0, p.1.now)
+seen_as meaning (Err fault) = Err fault
+
 -- an answer of the code, its rest seen as the bytes that it holds
 abbrev pub seen : {X E : Type 0} → Result (X × Bor (List ℕ)) E → Result (X × List ℕ) E
-seen (Ok p) = Ok (p.0, p.1.now)
-seen (Err fault) = Err fault
+seen answer = seen_as (λ x. x) answer
 
 -- the same where the answer is the rest alone
 abbrev pub seen_rest : {E : Type 0} → Result (Bor (List ℕ)) E → Result (List ℕ) E
@@ -25,11 +29,6 @@ seen_rest (Err fault) = Err fault
 abbrev pub outcome_of : {X : Type 0} → Read X → Result X RecordFault
 outcome_of (Ok p) = Ok p.0
 outcome_of (Err fault) = Err fault
-
--- the bytes behind what was read from these; a fault takes none of them
-abbrev pub rest_of : {X : Type 0} → List ℕ → Read X → List ℕ
-rest_of bytes (Ok p) = p.1
-rest_of bytes (Err fault) = bytes
 
 -- whether the region that was read holds a point
 abbrev pub held_in : {R P : Type 0} → (R → P → Bool) → Result R RecordFault → P → Bool

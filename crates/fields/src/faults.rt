@@ -80,6 +80,7 @@ impl RecordFault {
 }
 
 impl Fault {
+    // A variant that holds a value has no discriminant, so the numbers stand in a match.
     pub fn number(self) -> u8
         ensures { result ≡ fault_number self.kind }
     {
@@ -99,9 +100,10 @@ impl Fault {
     pub fn cause(self) -> Option<u8>
         ensures { result ≡ cause_number self.kind }
     {
-        match self.kind {
-            FaultKind::BrokenRule(cause) => Some(cause.number()),
-            _ => None,
+        if let FaultKind::BrokenRule(cause) = self.kind {
+            Some(cause.number())
+        } else {
+            None
         }
     }
 }

@@ -1,97 +1,114 @@
 // The fields of a record: a number read from its bytes, highest byte first, and written to them.
-ghost use Rattle.std.specs.Prelude.{◌≡◌};
-ghost use Rattle.buffers.specs.Buffers.{Placed};
+ghost use Rattle.std.specs.Prelude.{◌≡◌, ℕ, ◌==◌, refl};
+ghost use Rattle.buffers.specs.Outputs.{Puts};
 ghost use Rattle.fields.specs.Fields.{field_of, given_of, bytes_of, given_bytes, given_bit};
-ghost use Rattle.fields.specs.Reading.{seen};
+ghost use Rattle.fields.specs.Reading.{seen_as};
 
 use crate::faults::{FaultKind, RecordFault};
-use buffers::{put_byte, put_text};
+use buffers::Output;
 
-pub fn read_u8(bytes: &[u8]) -> Result<(u8, &[u8]), RecordFault>
-    ensures { seen result ≡ field_of 1 bytes.now }
-{
-    let [value, rest @ ..] = bytes else {
-        return Err(RecordFault::short());
-    };
-    Ok((*value, rest))
+// A number that a field holds.
+pub trait Number: Copy + PartialEq {
+    // How many bytes its field has.
+    ghost width: { ℕ };
+
+    ghost value: { Self → ℕ };
+
+    // The number at the front of some bytes, and the bytes behind it.
+    fn read(bytes: &[u8]) -> Result<(Self, &[u8]), RecordFault>
+        ensures { seen_as value result ≡ field_of width bytes.now };
+
+    fn put(self, out: &mut Output)
+        ensures { Puts out.old (bytes_of width (value self)) out.new };
+
+    // Numbers are equal by their values.
+    ghost by_value: { (a b : Self) → Self.eq a b ≡ (value a == value b) };
 }
 
-pub fn read_u16(bytes: &[u8]) -> Result<(u16, &[u8]), RecordFault>
-    ensures { seen result ≡ field_of 2 bytes.now }
-{
-    let [a, b, rest @ ..] = bytes else {
-        return Err(RecordFault::short());
-    };
-    Ok((u16::from_be_bytes([*a, *b]), rest))
+// Each reader takes a field's bytes and the rest by a slice pattern of its own; the three impls stay apart, since no macro
+// may write one.
+impl Number for u8 {
+    ghost width = { 1 };
+
+    ghost value = { λ n. n };
+
+    ghost by_value = { λ a b. refl };
+
+    fn read(bytes: &[u8]) -> Result<(u8, &[u8]), RecordFault> {
+        let [value, rest @ ..] = bytes else {
+            return Err(RecordFault::short());
+        };
+        Ok((*value, rest))
+    }
+
+    fn put(self, out: &mut Output) {
+        out.put_byte(self);
+    }
 }
 
-pub fn read_u32(bytes: &[u8]) -> Result<(u32, &[u8]), RecordFault>
-    ensures { seen result ≡ field_of 4 bytes.now }
-{
-    let [a, b, c, d, rest @ ..] = bytes else {
-        return Err(RecordFault::short());
-    };
-    Ok((u32::from_be_bytes([*a, *b, *c, *d]), rest))
+impl Number for u16 {
+    ghost width = { 2 };
+
+    ghost value = { λ n. n };
+
+    ghost by_value = { λ a b. refl };
+
+    fn read(bytes: &[u8]) -> Result<(u16, &[u8]), RecordFault> {
+        let [a, b, rest @ ..] = bytes else {
+            return Err(RecordFault::short());
+        };
+        Ok((u16::from_be_bytes([*a, *b]), rest))
+    }
+
+    fn put(self, out: &mut Output) {
+        out.put_bytes(&u16::to_be_bytes(self));
+    }
 }
 
-// A field of one byte that must not equal its absent value.
-pub fn given_u8(bytes: &[u8], absent: u8) -> Result<(u8, &[u8]), RecordFault>
-    ensures { seen result ≡ given_of 1 absent bytes.now }
+impl Number for u32 {
+    ghost width = { 4 };
+
+    ghost value = { λ n. n };
+
+    ghost by_value = { λ a b. refl };
+
+    fn read(bytes: &[u8]) -> Result<(u32, &[u8]), RecordFault> {
+        let [a, b, c, d, rest @ ..] = bytes else {
+            return Err(RecordFault::short());
+        };
+        Ok((u32::from_be_bytes([*a, *b, *c, *d]), rest))
+    }
+
+    fn put(self, out: &mut Output) {
+        out.put_bytes(&u32::to_be_bytes(self));
+    }
+}
+
+// A field that must not equal its absent value.
+pub fn given<N: Number>(bytes: &[u8], absent: N) -> Result<(N, &[u8]), RecordFault>
+    ensures { seen_as N.value result ≡ given_of N.width (N.value absent) bytes.now }
 {
-    let (byte, rest) = read_u8(bytes)?;
-    if byte == absent {
+    let (number, rest) = N::read(bytes)?;
+    if number == absent {
         return Err(RecordFault::at(FaultKind::AbsentValue, bytes));
     }
-    Ok((byte, rest))
+    Ok((number, rest))
 }
 
-// A field of four bytes that must not equal its absent value.
-pub fn given_u32(bytes: &[u8], absent: u32) -> Result<(u32, &[u8]), RecordFault>
-    ensures { seen result ≡ given_of 4 absent bytes.now }
+// Puts a field, or no bytes where it equals its absent value.
+pub fn put_given<N: Number>(number: N, absent: N, out: &mut Output)
+    ensures { Puts out.old (given_bytes N.width (N.value absent) (N.value number)) out.new }
 {
-    let (word, rest) = read_u32(bytes)?;
-    if word == absent {
-        return Err(RecordFault::at(FaultKind::AbsentValue, bytes));
+    if number != absent {
+        number.put(out);
+    } else {
+        out.put_bytes(&[]);
     }
-    Ok((word, rest))
-}
-
-pub fn put_u16(out: &mut [u8], at: usize, value: u16) -> usize
-    ensures { Placed out.old at (bytes_of 2 value) result out.new }
-{
-    let [high, low] = value.to_be_bytes();
-    put_text(out, at, &[high, low])
-}
-
-pub fn put_u32(out: &mut [u8], at: usize, value: u32) -> usize
-    ensures { Placed out.old at (bytes_of 4 value) result out.new }
-{
-    put_text(out, at, &value.to_be_bytes())
-}
-
-// A field of one byte, left out where it equals its absent value.
-pub fn put_given_u8(out: &mut [u8], at: usize, absent: u8, value: u8) -> usize
-    ensures { Placed out.old at (given_bytes 1 absent value) result out.new }
-{
-    if value == absent {
-        return at;
-    }
-    put_byte(out, at, value)
-}
-
-// A field of four bytes, left out where it equals its absent value.
-pub fn put_given_u32(out: &mut [u8], at: usize, absent: u32, value: u32) -> usize
-    ensures { Placed out.old at (given_bytes 4 absent value) result out.new }
-{
-    if value == absent {
-        return at;
-    }
-    put_u32(out, at, value)
 }
 
 // The bit of a map for a field: whether the field is written.
-pub fn given_bit(absent: u32, value: u32) -> u8
-    ensures { result ≡ given_bit absent value }
+pub fn given_bit<N: Number>(absent: N, number: N) -> u8
+    ensures { result ≡ given_bit (N.value absent) (N.value number) }
 {
-    if value == absent { 0 } else { 1 }
+    u8::from(number != absent)
 }

@@ -1,10 +1,10 @@
 // Records of any kind: a map, one field for each of its ones that has a field, and what they make.
 ghost use Rattle.std.specs.Prelude.{◌≡◌, length, count_ones};
 ghost use Rattle.fields.specs.Layouts.{LayoutOf, places_of, fields_of, numbers_of, record_of};
-ghost use Rattle.fields.specs.Reading.{seen, outcome_of, rest_of};
+ghost use Rattle.fields.specs.Reading.{seen};
 
 use crate::faults::{FaultKind, RecordFault};
-use crate::fields::read_u8;
+use crate::fields::Number;
 use supplied::MakeError;
 
 // The numbers that the fields of a kind of record give.
@@ -25,7 +25,7 @@ pub trait Layout: Copy {
     fn field_bits(map: u8) -> u8
         ensures { result ≡ layout.field_bits map };
 
-    // Reads the field of a bit of the map.
+    // Reads the field of a bit of the map. Bits go by the numbers that the file format gives them.
     fn take_field(self, place: u32, bytes: &[u8]) -> Result<(Self, &[u8]), RecordFault>
         ensures { seen result ≡ layout.taken self place bytes.now };
 
@@ -35,6 +35,7 @@ pub trait Layout: Copy {
 }
 
 // The fields of the map's ones, in bit order.
+#[tactic(auto, using(crate::proofs::Places::some_one, crate::proofs::Places::places_count, crate::proofs::FieldTurns::no_field, crate::proofs::FieldTurns::field_refused))]
 fn read_fields<L: Layout>(map: u8, bytes: &[u8]) -> Result<(L, &[u8]), RecordFault>
     ensures fields { seen result ≡ fields_of L.Layout.layout.taken (places_of map) L.Layout.layout.absent bytes.now }
     ensures count { length (places_of map) ≡ count_ones map }
@@ -42,10 +43,9 @@ fn read_fields<L: Layout>(map: u8, bytes: &[u8]) -> Result<(L, &[u8]), RecordFau
     let mut numbers = L::absent();
     let mut rest = bytes;
     let mut ahead = map;
+    // The map's ones number the fields.
     for _ in 0..map.count_ones() {
-        let (more, behind) = numbers.take_field(ahead.trailing_zeros(), rest)?;
-        numbers = more;
-        rest = behind;
+        (numbers, rest) = numbers.take_field(ahead.trailing_zeros(), rest)?;
         ahead &= ahead - 1;
     }
     Ok((numbers, rest))
@@ -55,7 +55,7 @@ fn read_fields<L: Layout>(map: u8, bytes: &[u8]) -> Result<(L, &[u8]), RecordFau
 fn read_numbers<L: Layout>(bytes: &[u8]) -> Result<((u8, L), &[u8]), RecordFault>
     ensures { seen result ≡ numbers_of L.Layout.layout bytes.now }
 {
-    let (map, rest) = read_u8(bytes)?;
+    let (map, rest) = u8::read(bytes)?;
     if !L::is_defined(map) {
         return Err(RecordFault::at(FaultKind::UndefinedBit, bytes));
     }
@@ -63,19 +63,12 @@ fn read_numbers<L: Layout>(bytes: &[u8]) -> Result<((u8, L), &[u8]), RecordFault
     Ok(((map, numbers), rest))
 }
 
-// A record, and the bytes behind it; a fault takes none of the bytes.
-pub fn read_record<L: Layout>(bytes: &[u8]) -> (Result<L::Made, RecordFault>, &[u8])
-    ensures outcome { result.0 ≡ outcome_of (record_of L.Layout.layout bytes.now) }
-    ensures rest { result.1.now ≡ rest_of bytes.now (record_of L.Layout.layout bytes.now) }
+// A record, and the bytes behind it, or the first fault.
+pub fn read_record<L: Layout>(bytes: &[u8]) -> Result<(L::Made, &[u8]), RecordFault>
+    ensures { seen result ≡ record_of L.Layout.layout bytes.now }
 {
-    match read_numbers::<L>(bytes) {
-        Ok(((map, numbers), rest)) => match numbers.make(map) {
-            Ok(made) => (Ok(made), rest),
-            Err(cause) => {
-                let fault = RecordFault::at(FaultKind::BrokenRule(cause), bytes);
-                (Err(fault), bytes)
-            }
-        },
-        Err(fault) => (Err(fault), bytes),
-    }
+    let ((map, numbers), rest) = read_numbers::<L>(bytes)?;
+    let broken = |cause| RecordFault::at(FaultKind::BrokenRule(cause), bytes);
+    let made = numbers.make(map).map_err(broken)?;
+    Ok((made, rest))
 }

@@ -1,21 +1,13 @@
 -- A listing written to a buffer, of which the first 65,535 bytes at most are lent for it.
-use Rattle.std.proofs.Common.{◌≡◌, ℕ, ◌-◌, ◌≤◌, min, Bool, true, false, cond, leb, List, ◌++◌, length, take, drop, Some, None, Ok, Err, Result, sym, refl, ap, ◌∙◌, ⊎_elim, append_assoc, arith, take-append-drop, length-take}
-use borrow.Rule.Slice.PartMut.{post_of}
+use Rattle.std.proofs.Common.{◌≡◌, ℕ, ◌≤◌, min, Bool, true, false, cond, leb, List, ◌++◌, length, take, drop, Some, None, Ok, Err, Result, sym, refl, ap, ◌∙◌, ⊎_elim, append_assoc, arith, take-append-drop, length-take}
 use Rattle.std.specs.Option.{ok_or}
 use Rattle.std.proofs.lemmas.List.{drop-append-le}
 use Rattle.std.proofs.lemmas.Bool.{cases_Bool, leb-true, cond-true, cond-false}
-use Rattle.supplied.specs.declared.ranges.PrefixRange.{PrefixRange}
-use Rattle.compare.specs.declared.rows.Row.{Row}
-use Rattle.listing.specs.Listings.{listing}
 use Rattle.buffers.specs.Buffers.{written, written_length}
 use Rattle.files.specs.declared.refusals.Refusal.{Refusal}
 use Rattle.files.specs.declared.refusals.Unwritten.{Unwritten}
 use Rattle.files.specs.declared.refusals.Unwritten.TheVariants.{TooLong}
 use Rattle.files.specs.Written.{has_room, written_answer, buffer_after}
-
-pub same-listing : {regions regions' : List PrefixRange} {rows rows' : List Row} {holes holes' : List ℕ} (lefts rights : ℕ) → regions ≡ regions' → rows ≡ rows' → holes ≡ holes' → listing regions rows holes lefts rights ≡ listing regions' rows' holes' lefts rights
-same-listing {regions' = regions'} {rows = rows} {rows' = rows'} {holes = holes} lefts rights d e f =
-    ap (λ l. listing l rows holes lefts rights) d ∙ ap (λ l. listing regions' l holes lefts rights) e ∙ ap (λ l. listing regions' rows' l lefts rights) f
 
 or_too_long : (b : Bool) (n : ℕ) → ok_or (cond b (Some n) None) TooLong ≡ cond b (Ok n) (Err TooLong)
 or_too_long true n = refl
@@ -23,34 +15,28 @@ or_too_long false n = refl
 
 module _ (buffer text : List ℕ) (n : ℕ) (used : n ≡ min 65535 (length buffer)) where
   abbrev lent : List ℕ
-  lent = take (n - 0) (drop 0 buffer)
-
-  lent_is : lent ≡ take n buffer
-  lent_is = ap (λ k. take k buffer) (omega arith)
+  lent = take n buffer
 
   same_test : leb (length text) (length lent) ≡ has_room buffer text
-  same_test = ap (leb (length text)) (omega (arith, ap length lent_is, length-take n buffer, used))
+  same_test = ap (leb (length text)) (omega (arith, length-take n buffer, used))
 
   pub answer : ok_or (written_length lent text) TooLong ≡ written_answer buffer (Ok text)
   answer = ap (λ b. ok_or (cond b (Some (length text)) None) TooLong) same_test ∙ or_too_long (has_room buffer text) (length text)
 
   -- the part that was lent is back in its place
-  pub back : (after : List ℕ) → after ≡ written lent text → after ++ post_of 0 (n - 0) buffer ≡ buffer_after buffer (Ok text)
+  pub back : (after : List ℕ) → after ≡ written lent text → after ++ drop n buffer ≡ buffer_after buffer (Ok text)
   back after e =
-      let kept : post_of 0 (n - 0) buffer ≡ drop n buffer = ap (λ k. drop k buffer) (omega arith) in
-      let held : after ≡ cond (has_room buffer text) (text ++ drop (length text) (take n buffer)) (take n buffer) =
-      e ∙ ap (λ b. cond b (text ++ drop (length text) lent) lent) same_test ∙ ap (λ l. cond (has_room buffer text) (text ++ drop (length text) l) l) lent_is in
+      let held : after ≡ cond (has_room buffer text) (text ++ drop (length text) lent) lent =
+      e ∙ ap (λ b. cond b (text ++ drop (length text) lent) lent) same_test in
       ⊎_elim
       (λ yes.
-      let within : length text ≤ length (take n buffer) = omega (arith, leb-true _ _ yes, length-take n buffer, used) in
-      ap (λ l. after ++ l) kept
-      ∙ ap (λ l. l ++ drop n buffer) (held ∙ cond-true _ _ _ yes)
+      let within : length text ≤ length lent = omega (arith, leb-true _ _ yes, length-take n buffer, used) in
+      ap (λ l. l ++ drop n buffer) (held ∙ cond-true _ _ _ yes)
       ∙ append_assoc text _ _
-      ∙ ap (λ l. text ++ l) (sym (drop-append-le (length text) (take n buffer) (drop n buffer) within) ∙ ap (drop (length text)) (take-append-drop n buffer))
+      ∙ ap (λ l. text ++ l) (sym (drop-append-le (length text) lent (drop n buffer) within) ∙ ap (drop (length text)) (take-append-drop n buffer))
       ∙ sym (cond-true _ _ _ yes))
       (λ no.
-      ap (λ l. after ++ l) kept
-      ∙ ap (λ l. l ++ drop n buffer) (held ∙ cond-false _ _ _ no)
+      ap (λ l. l ++ drop n buffer) (held ∙ cond-false _ _ _ no)
       ∙ take-append-drop n buffer
       ∙ sym (cond-false _ _ _ no))
       (cases_Bool (has_room buffer text))

@@ -18,7 +18,7 @@ use Rattle.compare.proofs.AnsweredRightly.{answered_rightly}
 use Rattle.compare.proofs.Outcomes.{report_told}
 use Rattle.compare.proofs.RowsReported.{rows-reported}
 use Rattle.listing.specs.Listings.{listing}
-use Rattle.files.specs.Compared.{Filter, file_read, filter_of, regions_listed, rows_listed, holes_listed, answered, found_by, listing_in, filters_compared, files_compared}
+use Rattle.files.specs.Compared.{Filter, file_read, filter_of, regions_listed, rows_listed, holes_listed, answered, listing_of, filters_compared, files_compared}
 use Rattle.files.proofs.NoRows.{no_rows}
 use Rattle.files.specs.Meant.{ListsUnlike, HadToDecline, Meant}
 
@@ -72,10 +72,10 @@ filters_meant left right p q first second = by_answer (answered (filter_of p) (f
   where
     by_answer : (o : Result Report Declined) → answered (filter_of p) (filter_of q) ≡ o → Meant left right (filters_compared (filter_of p) (filter_of q))
     by_answer (Ok report) is =
-        subst (λ o. Meant left right (listing_in (found_by o (length p.0) (length q.0)) (regions_listed (filter_of p) (filter_of q)) (rows_listed (filter_of p) (filter_of q)) (holes_listed (filter_of p) (filter_of q)))) (sym is)
+        subst (λ o. Meant left right (listing_of o (regions_listed (filter_of p) (filter_of q)) (rows_listed (filter_of p) (filter_of q)) (holes_listed (filter_of p) (filter_of q)) (length p.0) (length q.0))) (sym is)
         (p, q, first, second, lists (filter_of p) (filter_of q) report is)
     by_answer (Err declined) is =
-        subst (λ o. Meant left right (listing_in (found_by o (length p.0) (length q.0)) (regions_listed (filter_of p) (filter_of q)) (rows_listed (filter_of p) (filter_of q)) (holes_listed (filter_of p) (filter_of q)))) (sym is)
+        subst (λ o. Meant left right (listing_of o (regions_listed (filter_of p) (filter_of q)) (rows_listed (filter_of p) (filter_of q)) (holes_listed (filter_of p) (filter_of q)) (length p.0) (length q.0))) (sym is)
         (p, q, first, second, declines (filter_of p) (filter_of q) declined is)
 
 -- of two files, by whether each is read

@@ -9,10 +9,10 @@ use Rattle.compare.specs.declared.reports.Declined.{Declined}
 use Rattle.compare.specs.declared.reports.Report.{Report}
 use Rattle.compare.specs.declared.rows.Row.{Row}
 use Rattle.files.specs.declared.refusals.Refusal.TheVariants.{Left, Right}
-use Rattle.files.specs.Compared.{Filter, file_read, filter_of, of_side, files_compared, regions_listed, rows_listed, holes_listed, answered, found_by, listing_in, filters_compared}
+use Rattle.files.specs.Compared.{Filter, file_read, filter_of, of_side, files_compared, regions_listed, rows_listed, holes_listed, answered, listing_of, filters_compared}
 use Rattle.files.specs.Printed.{report_text, compared_text, right_text, left_text, printed_text, text_of}
 
-reported_as : (o : Result Report Declined) (regions : List PrefixRange) (rows : List Row) (holes : List ℕ) (lefts rights : ℕ) → text_of (listing_in (found_by o lefts rights) regions rows holes) ≡ report_text o regions rows holes lefts rights
+reported_as : (o : Result Report Declined) (regions : List PrefixRange) (rows : List Row) (holes : List ℕ) (lefts rights : ℕ) → text_of (listing_of o regions rows holes lefts rights) ≡ report_text o regions rows holes lefts rights
 reported_as (Ok report) regions rows holes lefts rights = refl
 reported_as (Err declined) regions rows holes lefts rights = refl
 

@@ -1,5 +1,5 @@
 -- What comparing two files of prefix ranges with route actions gives: the listing, or the first refusal.
-use Rattle.std.specs.Prelude.{ℕ, List, length, take, Ok, Err, Result}
+use Rattle.std.specs.Prelude.{◌≡◌, ℕ, List, length, take, Ok, Err, Result}
 use Rattle.family.specs.declared.clauses.Clause.{Clause}
 use Rattle.supplied.specs.declared.actions.RouteAction.{RouteAction}
 use Rattle.supplied.specs.declared.ranges.PrefixRange.{PrefixRange}
@@ -16,8 +16,8 @@ use Rattle.compare.specs.declared.reports.Declined.{Declined}
 use Rattle.compare.specs.declared.reports.Report.{Report}
 use Rattle.compare.specs.declared.rows.Row.{Row}
 use Rattle.compare.specs.Compared.{list_for, rows_in, holes_in, outcome}
+use Rattle.listing.specs.declared.listings.Listing.{Listing}
 use Rattle.listing.specs.Listings.{listing}
-use Rattle.files.specs.declared.comparing.Found.{Found}
 use Rattle.files.specs.declared.refusals.Refusal.{Refusal}
 use Rattle.files.specs.declared.refusals.Refusal.TheVariants.{Left, Right, Comparison}
 
@@ -31,6 +31,11 @@ file_read bytes = file_of (record_of range_layout) (record_of action_layout) 1 6
 
 abbrev pub filter_of : List (Clause PrefixRange RouteAction) × RouteAction → Filter
 filter_of p = record { clauses = p.0; default = p.1; room = 65 }
+
+-- a file that is read as this filter
+abbrev pub ReadAs : List ℕ → Filter → Type 0
+ReadAs bytes filter =
+    (p : List (Clause PrefixRange RouteAction) × RouteAction) × (file_read bytes ≡ Ok p) × (filter ≡ filter_of p)
 
 -- the comparison has 1,024 region places, 1,024 row places and 4,096 hole places
 module _ (left right : Filter) where
@@ -46,21 +51,21 @@ module _ (left right : Filter) where
   abbrev pub answered : Result Report Declined
   answered = outcome whole_prefix first_of_routes 2 prefix_holds prefix_inside prefix_meet route_shifted same_action left right 1024 1024 4096
 
--- what a comparison answers, with the numbers of clauses of the two sides
-abbrev pub found_by : Result Report Declined → ℕ → ℕ → Result Found Refusal
-found_by (Ok report) lefts rights = Ok (record { report = report; lefts = lefts; rights = rights })
-found_by (Err declined) lefts rights = Err (Comparison declined)
-
--- the listing of what was found and stands in the three buffers
-abbrev pub listing_in : Result Found Refusal → List PrefixRange → List Row → List ℕ → Result (List ℕ) Refusal
-listing_in (Ok found) regions rows holes =
-    Ok (listing (take found.report.regions regions) (take found.report.rows rows) (take found.report.holes holes) found.lefts found.rights)
-listing_in (Err refusal) regions rows holes = Err refusal
+-- the listing of a report on what stands in the three buffers, with the numbers of clauses of the two sides
+abbrev pub listing_of : Result Report Declined → List PrefixRange → List Row → List ℕ → ℕ → ℕ → Result (List ℕ) Refusal
+listing_of (Ok report) regions rows holes lefts rights =
+    Ok (listing (take report.regions regions) (take report.rows rows) (take report.holes holes) lefts rights)
+listing_of (Err declined) regions rows holes lefts rights = Err (Comparison declined)
 
 abbrev pub filters_compared : Filter → Filter → Result (List ℕ) Refusal
 filters_compared left right =
-    listing_in (found_by (answered left right) (length left.clauses) (length right.clauses))
-    (regions_listed left right) (rows_listed left right) (holes_listed left right)
+    listing_of (answered left right) (regions_listed left right) (rows_listed left right) (holes_listed left right)
+    (length left.clauses) (length right.clauses)
+
+-- the text of a listing that was found
+abbrev pub text_found : Result Listing Refusal → Result (List ℕ) Refusal
+text_found (Ok l) = Ok (listing l.regions.now l.rows.now l.holes.now l.left_clauses l.right_clauses)
+text_found (Err refusal) = Err refusal
 
 -- a file that was read, or its fault as that of its side
 abbrev pub of_side : {X : Type 0} → (Fault → Refusal) → Result X Fault → Result X Refusal

@@ -4,30 +4,22 @@ ghost use Rattle.filterfile.specs.Files.{file_of};
 ghost use Rattle.filter.specs.Views.{load_answer};
 ghost use Rattle.files.specs.Checked.{checked};
 
-use family::{ActionKind, Clause, Family};
+use crate::codes::{PACKETS, PREFIX_RANGES, ROUTES_WITH_ORIGIN};
+use family::Clause;
 use fields::Fault;
 use filter::Draft;
 use records::{Recorded, RecordedAction};
 use supplied::{Packet, PrefixRange, RouteAction, RouteWithOrigin, Verdict};
 
-// A clause place before a clause is written to it.
-fn no_clause<R: Family, A: ActionKind>() -> Clause<R, A> {
-    Clause {
-        region: R::whole_region(),
-        action: A::rejecting(),
-    }
-}
-
-// What a load of the file into these places answers.
-fn load_into<R: Recorded, A: RecordedAction>(
+// What a load of the file into these places answers. They are lent: an array of a type parameter might be too large.
+fn load<R: Recorded, A: RecordedAction>(
     code: u8,
     file: &[u8],
     places: &mut [Clause<R, A>],
 ) -> Result<(), Fault>
     ensures { result ≡ load_answer (file_of R.Recorded.reads A.RecordedAction.reads code (length places.old) file.now) }
 {
-    let mut draft = Draft::new(places);
-    draft.load(code, file)
+    Draft::new(places).load(code, file)
 }
 
 // Whether a file can be loaded, or its first fault. Its first byte tells the family; a file with no code of a family is
@@ -36,12 +28,12 @@ pub fn check(file: &[u8]) -> Result<(), Fault>
     ensures { result ≡ checked file.now }
 {
     match file {
-        [2, ..] => load_into(
-            2,
+        [ROUTES_WITH_ORIGIN, ..] => load::<RouteWithOrigin, RouteAction>(
+            ROUTES_WITH_ORIGIN,
             file,
-            &mut [no_clause::<RouteWithOrigin, RouteAction>(); 65],
+            &mut [Clause::default(); 65],
         ),
-        [3, ..] => load_into(3, file, &mut [no_clause::<Packet, Verdict>(); 65]),
-        _ => load_into(1, file, &mut [no_clause::<PrefixRange, RouteAction>(); 65]),
+        [PACKETS, ..] => load::<Packet, Verdict>(PACKETS, file, &mut [Clause::default(); 65]),
+        _ => load::<PrefixRange, RouteAction>(PREFIX_RANGES, file, &mut [Clause::default(); 65]),
     }
 }

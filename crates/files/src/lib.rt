@@ -2,6 +2,7 @@
 #![tactic(auto)]
 
 mod checks;
+mod codes;
 mod comparing;
 mod refusals;
 mod texts;

@@ -1,6 +1,7 @@
 // Why two files give no listing, and why one is not written.
 ghost use Rattle.std.specs.Prelude.{◌≡◌};
 ghost use Rattle.files.specs.Refusals.{refusal_number, unwritten_number, line_of};
+ghost use Rattle.files.specs.declared.refusals.Unwritten.TheVariants.{Refused};
 
 use fields::Fault;
 use listing::Declined;
@@ -14,6 +15,7 @@ pub enum Refusal {
 }
 
 impl Refusal {
+    // By match: the variants hold values, and so have no numbers of their own.
     pub fn number(self) -> u8
         ensures { result ≡ refusal_number self }
     {
@@ -23,12 +25,14 @@ impl Refusal {
             Refusal::Comparison(declined) => declined.number(),
         }
     }
+}
 
-    // What the line of the refusal tells.
-    pub(crate) fn line(self) -> Declined
-        ensures { result ≡ line_of self }
-    {
-        match self {
+// What the line of a refusal tells.
+impl From<Refusal> for Declined {
+    ghost from_gives = { λ refusal declined. declined ≡ line_of refusal };
+
+    fn from(refusal: Refusal) -> Declined {
+        match refusal {
             Refusal::Left(fault) => Declined::Left {
                 number: fault.number(),
                 place: fault.place,
@@ -52,6 +56,7 @@ pub enum Unwritten {
 }
 
 impl Unwritten {
+    // By match, as a refusal's.
     pub fn number(self) -> u8
         ensures { result ≡ unwritten_number self }
     {
@@ -59,5 +64,13 @@ impl Unwritten {
             Unwritten::Refused(refusal) => refusal.number(),
             Unwritten::TooLong => 19,
         }
+    }
+}
+
+impl From<Refusal> for Unwritten {
+    ghost from_gives = { λ refusal unwritten. unwritten ≡ Refused refusal };
+
+    fn from(refusal: Refusal) -> Unwritten {
+        Unwritten::Refused(refusal)
     }
 }

@@ -4,11 +4,9 @@ ghost use Rattle.files.specs.Compared.{files_compared};
 ghost use Rattle.files.specs.Meant.{Meant};
 ghost use Rattle.files.specs.Written.{written_answer, buffer_after};
 
-use crate::comparing::{NO_ROW, compare_files, front};
+use crate::comparing::Memory;
 use crate::refusals::Unwritten;
-use family::Family;
-use listing::write_listing;
-use supplied::PrefixRange;
+use buffers::write_text;
 
 // No listing that is written has more bytes.
 const LONGEST: usize = 65_535;
@@ -20,21 +18,9 @@ pub fn write_compared(left: &[u8], right: &[u8], out: &mut [u8]) -> Result<usize
     ensures bytes { out.new ≡ buffer_after out.old (files_compared left.now right.now) }
     ensures meaning { Meant left.now right.now (files_compared left.now right.now) }
 {
-    let mut regions = [PrefixRange::whole_region(); 1024];
-    let mut rows = [NO_ROW; 1024];
-    let mut holes = [0; 4096];
-    let found = match compare_files(left, right, &mut regions, &mut rows, &mut holes) {
-        Ok(found) => found,
-        Err(refusal) => return Err(Unwritten::Refused(refusal)),
-    };
+    let mut memory = Memory::new();
+    let listing = memory.compare_files(left, right)?;
     let room = out.len().min(LONGEST);
-    let written = write_listing(
-        &mut out[0..room],
-        front(&regions, found.report.regions),
-        front(&rows, found.report.rows),
-        front(&holes, found.report.holes),
-        found.lefts,
-        found.rights,
-    );
+    let written = write_text(&listing, &mut out[..room]);
     written.ok_or(Unwritten::TooLong)
 }

@@ -1,14 +1,16 @@
 -- A filter's view after an edit of its memory.
-use Rattle.std.proofs.Common.{◌≡◌, ℕ, ◌+◌, ◌-◌, ◌<◌, ◌≤◌, min, ltb, leb, List, ◌++◌, map, length, get_or, take, drop, set, Ok, sym, ap, ◌∙◌, append_assoc, arith, length-append, length-drop, length-set, length-take}
+use Rattle.std.proofs.Common.{◌≡◌, ℕ, ◌+◌, ◌-◌, ◌<◌, ◌≤◌, min, ltb, List, ◌++◌, map, length, get_or, take, drop, set, Ok, Err, Result, sym, ap, ◌∙◌, append_assoc, arith, length-append, length-drop, length-set, length-take}
 use lib.ListN.{length-map}
 use Rattle.std.specs.List.{insert, remove}
 use Rattle.std.proofs.lemmas.List.Edits.{length-insert, length-remove}
 use Rattle.std.proofs.lemmas.List.{map-append, map-set, drop-map, get_or-append_right, get_or-drop, get_or-set_other, take_at, take-append-drop, set-append_left, take-set-le}
-use Rattle.std.proofs.lemmas.Bool.{cond-true, cond-false, lt-ltb, le-ltb, lt-leb}
+use Rattle.std.proofs.lemmas.Bool.{cond-true, lt-ltb}
 use Rattle.family.specs.declared.clauses.Clause.{Clause}
 use Rattle.filterfile.specs.Files.{usable_places}
-use Rattle.filter.specs.Ledger.{with_clauses, insert_answer, place_answer, default_answer, inserted_places, removed_places}
+use Rattle.filter.specs.declared.errors.EditError.{EditError}
+use Rattle.filter.specs.Ledger.{if_done, insert_at_answer, at_answer, with_clauses, insert_answer, place_answer, default_answer, after_insert, after_remove, after_replace, after_default, inserted_places, removed_places}
 use Rattle.filter.specs.Views.{View, default_in, clauses_in, view_of, with_default}
+use Rattle.filter.proofs.Fitting.{insert_fits, at_fits}
 use Rattle.filter.proofs.Viewed.{same_view, room-kept, default-put}
 
 module _ {R A : Type 0} (reject : A) (places : List (Clause R A)) where
@@ -37,45 +39,7 @@ module _ {R A : Type 0} (reject : A) (places : List (Clause R A)) where
       let all : min n (usable_places (length (front ++ behind))) ≡ n = omega arith in
       same_view (ap (λ k. take k (front ++ behind)) all ∙ take_at front behind n size) same long
 
-  pub after_insert_lem : (count m place : ℕ) (c : Clause R A) → m ≡ min count (usable_places (length places)) → place ≤ m → m < usable_places (length places) → view_of reject (inserted_places places m place c) (m + 1) ≡ with_clauses (view_of reject places count) (insert (clauses_in places count) place c)
-  after_insert_lem count m place c is low free =
-      let front = insert (take m places) place c in
-      let upto : length (take m places) ≡ m = omega (arith, length-take m places) in
-      let size : length front ≡ m + 1 = length-insert (take m places) place c (omega arith) ∙ ap (λ k. k + 1) upto in
-      let long : length (front ++ drop (m + 1) places) ≡ length places = omega (arith, length-append front (drop (m + 1) places), length-drop (m + 1) places) in
-      fronted front (drop (m + 1) places) (m + 1) count size (omega arith) long (default_behind front (m + 1) size (omega arith))
-      ∙ ap (λ k. with_clauses (view_of reject places count) (insert (take k places) place c)) is
-
-  pub after_remove_lem : (count m place : ℕ) → m ≡ min count (usable_places (length places)) → place < m → view_of reject (removed_places places m place) (m - 1) ≡ with_clauses (view_of reject places count) (remove (clauses_in places count) place)
-  after_remove_lem count m place is low =
-      let front = remove (take m places) place in
-      let gone = take 1 (drop place places) in
-      let upto : length (take m places) ≡ m = omega (arith, length-take m places) in
-      let size : length front ≡ m - 1 = omega (arith, length-remove (take m places) place (omega arith)) in
-      let one : length gone ≡ 1 = omega (arith, length-take 1 (drop place places), length-drop place places) in
-      let both : length (front ++ gone) ≡ m = omega (arith, length-append front gone) in
-      let grouped = append_assoc front gone (drop m places) in
-      let long : length (front ++ (gone ++ drop m places)) ≡ length places = omega (arith, length-append front (gone ++ drop m places), length-append gone (drop m places), length-drop m places) in
-      fronted front (gone ++ drop m places) (m - 1) count size (omega arith) long (ap (default_in reject) (sym grouped) ∙ default_behind (front ++ gone) m both (omega arith))
-      ∙ ap (λ k. with_clauses (view_of reject places count) (remove (take k places) place)) is
-
-  pub after_replace_lem : (count m place : ℕ) (c : Clause R A) → m ≡ min count (usable_places (length places)) → place < m → view_of reject (set places place c) count ≡ with_clauses (view_of reject places count) (set (clauses_in places count) place c)
-  unfolding act
-  after_replace_lem count m place c is low =
-      let last = length places - 1 in
-      let long = length-set places place c in
-      let upto : length (take m places) ≡ m = omega (arith, length-take m places) in
-      let reach : place < length (take m places) = omega arith in
-      let other : last ≡ place → ⊥ = λ same. omega arith in
-      let front : set places place c ≡ set (take m places) place c ++ drop m places = ap (λ l. set l place c) (sym (take-append-drop m places)) ∙ set-append_left (take m places) (drop m places) place c reach in
-      let size : length (set (take m places) place c) ≡ m = length-set (take m places) place c ∙ upto in
-      let counted : min count (usable_places (length (set places place c))) ≡ m = omega arith in
-      same_view
-      (ap (λ k. take k (set places place c)) counted ∙ ap (take m) front ∙ take_at (set (take m places) place c) (drop m places) m size ∙ ap (λ k. set (take k places) place c) is)
-      (ap (λ k. get_or (map act (set places place c)) (k - 1) reject) long ∙ ap (λ l. get_or l last reject) (map-set act places place c) ∙ get_or-set_other (map act places) place last (act c) reject other)
-      long
-
-  pub redefaulted : (whole : R) (count : ℕ) (action : A) → 0 < length places → view_of reject (with_default whole places action) count ≡ record { clauses = clauses_in places count; default = action; room = length places }
+  redefaulted : (whole : R) (count : ℕ) (action : A) → 0 < length places → view_of reject (with_default whole places action) count ≡ record { clauses = clauses_in places count; default = action; room = length places }
   redefaulted whole count action some =
       let put : Clause R A = record { region = whole; action = action } in
       let last = length places - 1 in
@@ -87,15 +51,83 @@ module _ {R A : Type 0} (reject : A) (places : List (Clause R A)) where
       (default-put whole places action reject some)
       size
 
-  pub counted : (count : ℕ) → length (clauses_in places count) ≡ min count (usable_places (length places))
-  counted count = omega (arith, length-take (min count (usable_places (length places))) places)
+  pub view-redefaulted : (whole : R) (count : ℕ) (action : A) → 0 < length places → view_of reject (with_default whole places action) count ≡ after_default (view_of reject places count) action
+  view-redefaulted whole count action some =
+      let v = view_of reject places count in
+      let answer : Ok tt ≡ default_answer v = sym (cond-true (ltb 0 v.room) _ _ (lt-ltb _ _ some)) in
+      redefaulted whole count action some ∙ ap (λ o. if_done o (record { clauses = v.clauses; default = action; room = v.room }) v) answer
 
--- edits that are done
-pub insert_done : {R A : Type 0} (v : View R A) (place : ℕ) → place ≤ length v.clauses → length v.clauses < usable_places v.room → Ok tt ≡ insert_answer v place
-insert_done v place low free = sym (cond-false (ltb (length v.clauses) place) _ _ (le-ltb _ _ low) ∙ cond-false (leb (usable_places v.room) (length v.clauses)) _ _ (lt-leb _ _ free))
+  -- an edit of the clauses, which are so many
+  module _ (count : ℕ) (fits : count ≤ usable_places (length places)) where
+    abbrev v : View R A
+    v = view_of reject places count
 
-pub place_held : {R A : Type 0} (v : View R A) (place : ℕ) → place < length v.clauses → Ok tt ≡ place_answer v place
-place_held v place low = sym (cond-true (ltb place (length v.clauses)) _ _ (lt-ltb _ _ low))
+    all : count ≡ min count (usable_places (length places))
+    all = omega (arith, fits)
 
-pub default_placed : {R A : Type 0} (v : View R A) → 0 < v.room → Ok tt ≡ default_answer v
-default_placed v some = sym (cond-true (ltb 0 v.room) _ _ (lt-ltb _ _ some))
+    upto : length (take count places) ≡ count
+    upto = omega (arith, fits, length-take count places)
+
+    size : count ≡ length (clauses_in places count)
+    size = sym (ap (λ k. length (take k places)) (sym all) ∙ upto)
+
+    inserted : (place : ℕ) (c : Clause R A) → place ≤ count → count < usable_places (length places) → view_of reject (inserted_places places count place c) (count + 1) ≡ with_clauses v (insert (clauses_in places count) place c)
+    inserted place c low free =
+        let front = insert (take count places) place c in
+        let long : length front ≡ count + 1 = length-insert (take count places) place c (omega (arith, upto)) ∙ ap (λ k. k + 1) upto in
+        let whole : length (front ++ drop (count + 1) places) ≡ length places = omega (arith, length-append front (drop (count + 1) places), length-drop (count + 1) places) in
+        fronted front (drop (count + 1) places) (count + 1) count long (omega arith) whole (default_behind front (count + 1) long (omega arith))
+        ∙ ap (λ k. with_clauses v (insert (take k places) place c)) all
+
+    removed : (place : ℕ) → place < count → view_of reject (removed_places places count place) (count - 1) ≡ with_clauses v (remove (clauses_in places count) place)
+    removed place low =
+        let front = remove (take count places) place in
+        let gone = take 1 (drop place places) in
+        let long : length front ≡ count - 1 = omega (arith, upto, length-remove (take count places) place (omega (arith, upto))) in
+        let one : length gone ≡ 1 = omega (arith, fits, length-take 1 (drop place places), length-drop place places) in
+        let both : length (front ++ gone) ≡ count = omega (arith, length-append front gone) in
+        let grouped = append_assoc front gone (drop count places) in
+        let whole : length (front ++ (gone ++ drop count places)) ≡ length places = omega (arith, fits, length-append front (gone ++ drop count places), length-append gone (drop count places), length-drop count places) in
+        fronted front (gone ++ drop count places) (count - 1) count long (omega (arith, fits)) whole (ap (default_in reject) (sym grouped) ∙ default_behind (front ++ gone) count both (omega (arith, fits)))
+        ∙ ap (λ k. with_clauses v (remove (take k places) place)) all
+
+    replaced : (place : ℕ) (c : Clause R A) → place < count → view_of reject (set places place c) count ≡ with_clauses v (set (clauses_in places count) place c)
+    unfolding act
+    replaced place c low =
+        let last = length places - 1 in
+        let whole = length-set places place c in
+        let reach : place < length (take count places) = omega (arith, upto) in
+        let other : last ≡ place → ⊥ = λ same. omega (arith, fits) in
+        let front : set places place c ≡ set (take count places) place c ++ drop count places = ap (λ l. set l place c) (sym (take-append-drop count places)) ∙ set-append_left (take count places) (drop count places) place c reach in
+        let long : length (set (take count places) place c) ≡ count = length-set (take count places) place c ∙ upto in
+        let counted : min count (usable_places (length (set places place c))) ≡ count = omega (arith, fits) in
+        same_view
+        (ap (λ k. take k (set places place c)) counted ∙ ap (take count) front ∙ take_at (set (take count places) place c) (drop count places) count long ∙ ap (λ k. set (take k places) place c) all)
+        (ap (λ k. get_or (map act (set places place c)) (k - 1) reject) whole ∙ ap (λ l. get_or l last reject) (map-set act places place c) ∙ get_or-set_other (map act places) place last (act c) reject other)
+        whole
+
+    pub view-inserted : (place : ℕ) (c : Clause R A) (after : List (Clause R A)) (r : Result (Unit {0}) EditError) → Ok tt ≡ r → r ≡ insert_at_answer count (usable_places (length places)) place → after ≡ if_done r (inserted_places places count place c) places → view_of reject after (count + 1) ≡ after_insert v place c
+    view-inserted place c after r done told put =
+        let fit = insert_fits count (usable_places (length places)) place (done ∙ told) in
+        let answer : Ok tt ≡ insert_answer v place = done ∙ told ∙ ap (λ k. insert_at_answer k (usable_places (length places)) place) size in
+        ap (λ l. view_of reject l (count + 1)) (put ∙ ap (λ o. if_done o (inserted_places places count place c) places) (sym done))
+        ∙ inserted place c fit.0 fit.1
+        ∙ ap (λ o. if_done o (with_clauses v (insert (clauses_in places count) place c)) v) answer
+
+    pub view-removed : (place : ℕ) (after : List (Clause R A)) (r : Result (Unit {0}) EditError) → Ok tt ≡ r → r ≡ at_answer count place → after ≡ if_done r (removed_places places count place) places → view_of reject after (count - 1) ≡ after_remove v place
+    view-removed place after r done told put =
+        let answer : Ok tt ≡ place_answer v place = done ∙ told ∙ ap (λ k. at_answer k place) size in
+        ap (λ l. view_of reject l (count - 1)) (put ∙ ap (λ o. if_done o (removed_places places count place) places) (sym done))
+        ∙ removed place (at_fits count place (done ∙ told))
+        ∙ ap (λ o. if_done o (with_clauses v (remove (clauses_in places count) place)) v) answer
+
+    pub view-replaced : (place : ℕ) (c : Clause R A) (after : List (Clause R A)) (r : Result (Unit {0}) EditError) → r ≡ at_answer count place → after ≡ if_done r (set places place c) places → view_of reject after count ≡ after_replace v place c
+    view-replaced place c after (Ok done) told put =
+        let answer : Ok tt ≡ place_answer v place = told ∙ ap (λ k. at_answer k place) size in
+        ap (λ l. view_of reject l count) put
+        ∙ replaced place c (at_fits count place told)
+        ∙ ap (λ o. if_done o (with_clauses v (set (clauses_in places count) place c)) v) answer
+    view-replaced place c after (Err refused) told put =
+        let answer : Err refused ≡ place_answer v place = told ∙ ap (λ k. at_answer k place) size in
+        ap (λ l. view_of reject l count) put
+        ∙ ap (λ o. if_done o (with_clauses v (set (clauses_in places count) place c)) v) answer

@@ -1,9 +1,12 @@
 -- Elements of a list shifted by a place, to make room for one or to close a gap.
-use Rattle.std.proofs.Common.{◌≡◌, ℕ, suc, ◌+◌, ◌-◌, ◌<◌, ◌≤◌, List, [], ◌∷◌, ◌++◌, length, take, drop, set, sym, refl, ap, ◌∙◌, append_assoc, add-one, arith, length-append, length-drop, length-take}
+use Rattle.std.proofs.Common.{◌≡◌, ℕ, suc, ◌+◌, ◌-◌, ◌<◌, ◌≤◌, List, [], ◌∷◌, ◌++◌, length, take, drop, set, Ok, Err, Result, sym, refl, ap, ◌∙◌, append_assoc, add-one, arith, length-append, length-drop, length-take}
 use borrow.Rule.Slice.PartMut.{put_mid, post_of}
 use Rattle.std.specs.List.{insert, remove}
-use Rattle.std.proofs.lemmas.List.{take_at, drop_at, take_all, take-take, take-set-le, drop-set-lt, drop-append-le, drop-drop, take_more_set}
+use Rattle.std.proofs.lemmas.List.{take_at, drop_at, take_all, take-take, take-set-le, drop-set-lt, drop-append-le, drop-drop, take_more_set, take-append-drop}
 use Rattle.std.proofs.lemmas.Slice.{between_is, put_mid-paste}
+use Rattle.filter.specs.declared.errors.EditError.{EditError}
+use Rattle.filter.specs.Ledger.{if_done, insert_at_answer}
+use Rattle.filter.proofs.Fitting.{insert_fits}
 
 module _ {X : Type 0} (xs : List X) (n i : ℕ) (x : X) (low : i ≤ n) (fits : n < length xs) where
   back : List X
@@ -58,3 +61,17 @@ module _ {X : Type 0} (xs : List X) (n i : ℕ) (low : i < n) (fits : n ≤ leng
       ∙ ap (λ l. l ++ ((b ++ t) ++ drop n xs)) (sym (take-take i n xs upto))
       ∙ ap (λ l. take i (take n xs) ++ l) (append_assoc b t (drop n xs))
       ∙ sym (append_assoc (take i (take n xs)) b (t ++ drop n xs))
+
+-- an edit of a front of the places is one of all places
+module _ {X : Type 0} (xs : List X) (u n i : ℕ) (x : X) (within : u ≤ length xs) where
+  pub insert_in_front : (after : List X) (r : Result (Unit {0}) EditError) → r ≡ insert_at_answer n (length (take u xs)) i → after ≡ if_done r (insert (take n (take u xs)) i x ++ drop (n + 1) (take u xs)) (take u xs) → after ++ drop u xs ≡ if_done r (insert (take n xs) i x ++ drop (n + 1) xs) xs
+  insert_in_front after (Err refused) told put = ap (λ l. l ++ drop u xs) put ∙ take-append-drop u xs
+  insert_in_front after (Ok done) told put =
+      let fit = insert_fits n (length (take u xs)) i told in
+      let long : length (take u xs) ≡ u = omega (arith, length-take u xs) in
+      let low : n ≤ u = omega arith in
+      let reach : n + 1 ≤ length (take u xs) = omega arith in
+      ap (λ l. l ++ drop u xs) put
+      ∙ ap (λ l. (insert l i x ++ drop (n + 1) (take u xs)) ++ drop u xs) (take-take n u xs low)
+      ∙ append_assoc (insert (take n xs) i x) (drop (n + 1) (take u xs)) (drop u xs)
+      ∙ ap (λ l. insert (take n xs) i x ++ l) (sym (drop-append-le (n + 1) (take u xs) (drop u xs) reach) ∙ ap (drop (n + 1)) (take-append-drop u xs))

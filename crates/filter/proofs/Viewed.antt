@@ -1,17 +1,11 @@
 -- A filter's view after its memory was written.
-use Rattle.std.proofs.Common.{◌≡◌, ℕ, ◌-◌, ◌<◌, ◌≤◌, min, List, ◌++◌, map, length, get_or, take, drop, set, sym, refl, ap, ◌∙◌, ⊎_elim, arith, length-append, length-drop, length-set}
+use Rattle.std.proofs.Common.{◌≡◌, ◌-◌, ◌<◌, ◌≤◌, min, List, ◌++◌, map, length, get_or, take, drop, set, refl, ap, ◌∙◌, ⊎_elim, arith, length-append, length-drop, length-set}
 use lib.ListN.{length-map}
-use Rattle.std.proofs.lemmas.List.{map-set, get_or-set_same, get_or_past, get_or-map, take-set-le, take_at}
+use Rattle.std.proofs.lemmas.List.{map-set, get_or-set_same, get_or_past, take-set-le, take_at}
 use Rattle.std.proofs.lemmas.Bool.{cases_lt}
 use Rattle.family.specs.declared.clauses.Clause.{Clause}
 use Rattle.filterfile.specs.Files.{usable_places}
 use Rattle.filter.specs.Views.{View, default_in, view_of, empty_view, with_default}
-
--- an element of what a function makes of a list, where the default is made too
-pub get_d_made : {X Y : Type 0} (f : X → Y) (xs : List X) (i : ℕ) (d : X) → get_or (map f xs) i (f d) ≡ f (get_or xs i d)
-get_d_made f xs i d =
-    ⊎_elim (λ h. get_or-map f xs i d (f d) h)
-    (λ h. get_or_past (map f xs) i (f d) (omega (arith, length-map xs f)) ∙ ap f (sym (get_or_past xs i d h))) (cases_lt i (length xs))
 
 module _ {R A : Type 0} where
   pub same_view : {v w : View R A} → v.clauses ≡ w.clauses → v.default ≡ w.default → v.room ≡ w.room → v ≡ w

@@ -5,18 +5,15 @@ ghost use Rattle.filter.specs.EditErrors.{number_of};
 #[derive(Clone, Copy, PartialEq, Eq, Debug)]
 pub enum EditError {
     // The place is beyond the clauses, or holds none.
-    NoSuchPlace,
+    NoSuchPlace = 6,
     // Every usable place is taken, or the memory has no place.
-    NoPlaceLeft,
+    NoPlaceLeft = 7,
 }
 
 impl EditError {
     pub fn number(self) -> u8
         ensures { result ≡ number_of self }
     {
-        match self {
-            EditError::NoSuchPlace => 6,
-            EditError::NoPlaceLeft => 7,
-        }
+        self as u8
     }
 }

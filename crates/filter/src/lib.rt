@@ -5,7 +5,6 @@ mod draft;
 mod errors;
 mod places;
 mod sealed;
-mod table;
 
 pub use draft::Draft;
 pub use errors::EditError;

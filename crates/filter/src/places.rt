@@ -1,64 +1,87 @@
-// Lent places: a list kept at their front, one element more at a place with the others in their order, and the last place.
-ghost use Rattle.std.specs.Prelude.{◌≡◌, ◌+◌, ◌-◌, ◌&&◌, ◌++◌, length, take, drop, if◌then◌else◌, nat_le, nat_lt, slice_index_or, slice_set};
+// Lent places: a list kept at their front, and the last place.
+ghost use Rattle.std.specs.Prelude.{◌≡◌, ◌≤◌, ◌+◌, ◌-◌, ◌++◌, length, take, drop, slice_set};
 ghost use Rattle.std.specs.List.{insert, remove};
+ghost use Rattle.filterfile.specs.Files.{usable_places};
+ghost use Rattle.filter.specs.Ledger.{if_done, insert_at_answer, at_answer};
 
-// Puts an element before the one at a place, or at the end of the first `count`; false where there is no such place.
-pub fn insert_at<T: Copy>(places: &mut [T], count: usize, place: usize, x: T) -> bool
-    ensures answer { result ≡ (nat_le place count && nat_lt count (length places.old)) }
-    ensures memory { places.new ≡ (if result then insert (take count places.old) place x ++ drop (count + 1) places.old else places.old) }
+use crate::errors::EditError;
+use filterfile::usable_places;
+
+// Puts an element before the one at a place, or at the end of the first `count`.
+pub fn insert_at<T: Copy>(
+    places: &mut [T],
+    count: usize,
+    place: usize,
+    x: T,
+) -> Result<(), EditError>
+    ensures answer { result ≡ insert_at_answer count (length places.old) place }
+    ensures memory { places.new ≡ if_done result (insert (take count places.old) place x ++ drop (count + 1) places.old) places.old }
 {
-    if place > count || count >= places.len() {
-        return false;
+    if place > count {
+        return Err(EditError::NoSuchPlace);
+    }
+    if count >= places.len() {
+        return Err(EditError::NoPlaceLeft);
     }
     places[count] = x;
-    let part = &mut places[place..count + 1];
-    part.rotate_right(1);
-    true
+    places[place..count + 1].rotate_right(1);
+    Ok(())
 }
 
-// Takes the element at a place out of the first `count`; false where there is no such place. It stays behind the others.
-pub fn remove_at<T: Copy>(places: &mut [T], count: usize, place: usize) -> bool
-    ensures answer { result ≡ (nat_lt place count && nat_le count (length places.old)) }
-    ensures memory { places.new ≡ (if result then remove (take count places.old) place ++ (take 1 (drop place places.old) ++ drop count places.old) else places.old) }
+// The same, where only the usable places are taken: one is kept for the default.
+pub(crate) fn insert_usable<T: Copy>(
+    places: &mut [T],
+    count: usize,
+    place: usize,
+    x: T,
+) -> Result<(), EditError>
+    ensures answer { result ≡ insert_at_answer count (usable_places (length places.old)) place }
+    ensures memory { places.new ≡ if_done result (insert (take count places.old) place x ++ drop (count + 1) places.old) places.old }
 {
-    if place >= count || count > places.len() {
-        return false;
+    let usable = usable_places(places.len());
+    insert_at(&mut places[..usable], count, place, x)
+}
+
+// Takes the element at a place out of the first `count`. It stays behind the others.
+pub(crate) fn remove_at<T: Copy>(
+    places: &mut [T],
+    count: usize,
+    place: usize,
+) -> Result<(), EditError>
+    requires { count ≤ length places.old }
+    ensures answer { result ≡ at_answer count place }
+    ensures memory { places.new ≡ if_done result (remove (take count places.old) place ++ (take 1 (drop place places.old) ++ drop count places.old)) places.old }
+{
+    if place >= count {
+        return Err(EditError::NoSuchPlace);
     }
-    let part = &mut places[place..count];
-    part.rotate_left(1);
-    true
+    places[place..count].rotate_left(1);
+    Ok(())
 }
 
-// Changes the element at a place; false where there is no such place.
-pub fn replace_at<T: Copy>(places: &mut [T], place: usize, x: T) -> bool
-    ensures answer { result ≡ nat_lt place (length places.old) }
-    ensures memory { places.new ≡ slice_set places.old place x }
+// Changes the element at a place among the first `count`.
+pub(crate) fn replace_at<T: Copy>(
+    places: &mut [T],
+    count: usize,
+    place: usize,
+    x: T,
+) -> Result<(), EditError>
+    requires { count ≤ length places.old }
+    ensures answer { result ≡ at_answer count place }
+    ensures memory { places.new ≡ if_done result (slice_set places.old place x) places.old }
 {
-    if place >= places.len() {
-        return false;
+    if place >= count {
+        return Err(EditError::NoSuchPlace);
     }
     places[place] = x;
-    true
+    Ok(())
 }
 
 // Writes the last place, where there is one.
-pub fn put_last<T: Copy>(places: &mut [T], x: T)
+pub(crate) fn put_last<T: Copy>(places: &mut [T], x: T)
     ensures { places.new ≡ slice_set places.old (length places.old - 1) x }
 {
-    let room = places.len();
-    if room > 0 {
-        places[room - 1] = x;
-    }
-}
-
-// Reads the last place, or answers what stands for it where there is none.
-pub fn last_or<T: Copy>(places: &[T], otherwise: T) -> T
-    ensures { result ≡ slice_index_or places.now (length places.now - 1) otherwise }
-{
-    let room = places.len();
-    if room > 0 {
-        places[room - 1]
-    } else {
-        otherwise
+    if let Some(last) = places.last_mut() {
+        *last = x;
     }
 }

@@ -1,47 +1,52 @@
 // A sealed filter: it is matched, compared and written, and takes no edit.
-ghost use Rattle.std.specs.Prelude.{◌≡◌, ℕ, ◌<◌, List, length, Ok};
+ghost use Rattle.std.specs.Prelude.{◌≡◌, ℕ, ◌<◌, ◌≤◌, Bool, List, length, Ok};
 ghost use Rattle.buffers.specs.Buffers.{written};
-ghost use Rattle.family.specs.Clauses.{action_at};
-ghost use Rattle.family.specs.Lists.{first_where};
 ghost use Rattle.fields.specs.Fields.{Octets};
-ghost use Rattle.filterfile.specs.Files.{file_of};
+ghost use Rattle.filterfile.specs.Files.{usable_places, file_of};
 ghost use Rattle.filterfile.specs.WrittenFiles.{answer_in};
-ghost use Rattle.filter.specs.Ledger.{holding, match_of, FirstHolding};
-ghost use Rattle.filter.specs.States.{sealed_view};
+ghost use Rattle.filter.specs.Ledger.{AnswersBy, decision, match_of, FirstHolding};
 ghost use Rattle.filter.specs.Views.{file_of_view};
 
-use crate::table::Table;
 use family::{ActionKind, Clause, Family};
 use filterfile::{WriteError, write_file};
 use records::{Written, WrittenAction};
 
+// The places as in a draft. No Model, so that sealing can promise the same places.
 #[derive(Drop)]
 pub struct Sealed<'a, R, A> {
-    table: Table<'a, R, A>,
+    pub(crate) places: &'a mut [Clause<R, A>],
+    pub(crate) count: usize,
+    ghost fits: { count ≤ usable_places (length places.now) },
 }
 
 impl<'a, R: Family, A: ActionKind> Sealed<'a, R, A> {
-    pub(crate) fn over(places: &'a mut [Clause<R, A>], count: usize) -> Sealed<'a, R, A>
-        ensures counted { result.table.count ≡ count }
-        ensures memory { result.table.places.now ≡ places.old }
-        ensures lender { result.table.places.ghost_name ≡ places.entry.ghost_name }
-    {
-        Sealed {
-            table: Table { places, count },
-        }
-    }
+    ghost use Rattle.filter.specs.States.{sealed_view};
 
     // The clauses in their order.
     pub fn clauses(&self) -> &[Clause<R, A>]
         ensures { result.now ≡ (sealed_view A.reject self.now).clauses }
     {
-        self.table.clauses()
+        &self.places[..self.count]
     }
 
     pub fn default(&self) -> A
         ensures { result ≡ (sealed_view A.reject self.now).default }
     {
-        self.table.default()
+        self.places
+            .last()
+            .map_or(A::rejecting(), |last| last.action)
+    }
+
+    // The place of the first clause whose region passes the test, with its action, or the number of clauses with the default.
+    pub fn decided_by<T: Fn(R) -> bool>(&self, test: T) -> (usize, A)
+        requires { T.IsAlwaysCallable test }
+        ensures { (passes : R → Bool) → AnswersBy passes (T.post test) → result ≡ decision passes (sealed_view A.reject self.now) }
+    {
+        let clauses = self.clauses();
+        match clauses.iter().position(|clause| test(clause.region)) {
+            Some(place) => (place, clauses[place].action),
+            None => (clauses.len(), self.default()),
+        }
     }
 
     // The place that decides a point, and its action: the first clause whose region holds the point, or the default.
@@ -49,11 +54,13 @@ impl<'a, R: Family, A: ActionKind> Sealed<'a, R, A> {
         ensures answer { result ≡ match_of R.holds (sealed_view A.reject self.now) point }
         ensures first { FirstHolding R.holds (sealed_view A.reject self.now).clauses point result.0 }
     {
-        decide(self.table.clauses(), self.table.default(), point)
+        self.decided_by(|region| region.holds_point(point))
     }
 }
 
 impl<'a, R: Written, A: WrittenAction> Sealed<'a, R, A> {
+    ghost use Rattle.filter.specs.States.{sealed_view};
+
     // Writes the filter as a file of the given family code to the front of the buffer: answers the file's length.
     // A buffer that is too short is left as it was.
     pub fn write(&self, code: u8, out: &mut [u8]) -> Result<usize, WriteError>
@@ -62,23 +69,6 @@ impl<'a, R: Written, A: WrittenAction> Sealed<'a, R, A> {
         ensures back { (memory : ℕ) → length (sealed_view A.ActionKind.reject self.now).clauses < memory → file_of R.Recorded.reads A.RecordedAction.reads code memory (file_of_view R.Written.writes A.WrittenAction.writes code (sealed_view A.ActionKind.reject self.now)) ≡ Ok ((sealed_view A.ActionKind.reject self.now).clauses, (sealed_view A.ActionKind.reject self.now).default) }
         ensures kept { (memory : ℕ) (bytes : List ℕ) → Octets bytes → file_of R.Recorded.reads A.RecordedAction.reads code memory bytes ≡ Ok ((sealed_view A.ActionKind.reject self.now).clauses, (sealed_view A.ActionKind.reject self.now).default) → bytes ≡ file_of_view R.Written.writes A.WrittenAction.writes code (sealed_view A.ActionKind.reject self.now) }
     {
-        write_file(code, self.table.clauses(), self.table.default(), out)
+        write_file(code, self.clauses(), self.default(), out)
     }
-}
-
-// The first of the clauses whose region holds the point with its action, or the number of clauses with the default.
-fn decide<R: Family, A: ActionKind>(
-    clauses: &[Clause<R, A>],
-    default: A,
-    point: R::Point,
-) -> (usize, A)
-    ensures place { result.0 ≡ first_where (holding R.holds point) clauses.now }
-    ensures action { result.1 ≡ action_at clauses.now default (first_where (holding R.holds point) clauses.now) }
-{
-    for (place, clause) in clauses.iter().enumerate() {
-        if clause.region.holds_point(point) {
-            return (place, clause.action);
-        }
-    }
-    (clauses.len(), default)
 }

@@ -3,18 +3,16 @@ use Rattle.std.proofs.Common.{◌≡◌, ℕ, zero, suc, ◌+◌, ◌-◌, ◌<�
 use Rattle.family.specs.declared.clauses.Clause.{Clause}
 use Rattle.fields.specs.declared.faults.Fault.{Fault}
 use Rattle.fields.specs.declared.faults.Part.TheVariants.{Clause as InClause}
-use Rattle.fields.specs.declared.faults.RecordFault.{RecordFault}
-use Rattle.fields.specs.Faults.{fault_in}
-use Rattle.filterfile.specs.Files.{clause_of, clauses_of, behind_of}
+use Rattle.filterfile.specs.Files.{in_part, clause_of, clauses_of, behind_of}
 use Rattle.fields.specs.Reading.{Read, ◌>>=◌}
 use Rattle.fields.proofs.Seen.{same_parts}
 
 module _ {R A : Type 0} (region_of : List ℕ → Read R) (action_of : List ℕ → Read A) (total : ℕ) where
-  abbrev Clauses : Type 0
+  abbrev pub Clauses : Type 0
   Clauses = Result (List (Clause R A) × List ℕ) Fault
 
   -- a clause in front of the later ones
-  abbrev with_first : Clause R A → Clauses → Clauses
+  abbrev pub with_first : Clause R A → Clauses → Clauses
   with_first clause later = ◌>>=◌ later (λ p. Ok (clause ∷ p.0, p.1))
 
   behind_first : (clause : Clause R A) (later : Clauses) → behind_of (with_first clause later) ≡ behind_of later
@@ -48,15 +46,13 @@ module _ {R A : Type 0} (region_of : List ℕ → Read R) (action_of : List ℕ 
         let less : count - number ≡ suc (count - (number + 1)) = omega arith in
         ap (λ n. clauses_of region_of action_of total n number bytes) less
 
-    module _ (clause : Clause R A) (rest : List ℕ) (read : clause_of region_of action_of bytes ≡ Ok (clause, rest)) where
-      next_clause : clauses_of region_of action_of total (count - number) number bytes ≡ with_first clause (clauses_of region_of action_of total (count - (number + 1)) (number + 1) rest)
+    module _ (clause : Clause R A) (rest : List ℕ) (read : in_part total (InClause number) (clause_of region_of action_of bytes) ≡ Ok (clause, rest)) where
+      pub next_clause : clauses_of region_of action_of total (count - number) number bytes ≡ with_first clause (clauses_of region_of action_of total (count - (number + 1)) (number + 1) rest)
       next_clause = one_ahead ∙ rw read
 
-      pub behind_next : behind_of (clauses_of region_of action_of total (count - number) number bytes) ≡ behind_of (clauses_of region_of action_of total (count - (number + 1)) (number + 1) rest)
-      behind_next = ap behind_of next_clause ∙ behind_first clause _
+      -- the later clauses end where these do
+      pub ends-next : (ends : Result (List ℕ) Fault) → behind_of (clauses_of region_of action_of total (count - number) number bytes) ≡ ends → behind_of (clauses_of region_of action_of total (count - (number + 1)) (number + 1) rest) ≡ ends
+      ends-next ends same = sym (ap behind_of next_clause ∙ behind_first clause _) ∙ same
 
-      pub others-read : (all : List (Clause R A)) (behind : List ℕ) → clauses_of region_of action_of total (count - number) number bytes ≡ Ok (all, behind) → (later : List (Clause R A)) × (clauses_of region_of action_of total (count - (number + 1)) (number + 1) rest ≡ Ok (later, behind)) × (all ≡ clause ∷ later)
-      others-read all behind same = others clause _ all behind (sym next_clause ∙ same)
-
-    pub clause_refused : (fault : RecordFault) → clause_of region_of action_of bytes ≡ Err fault → clauses_of region_of action_of total (count - number) number bytes ≡ Err (fault_in total (InClause number) fault)
+    pub clause_refused : (fault : Fault) → in_part total (InClause number) (clause_of region_of action_of bytes) ≡ Err fault → clauses_of region_of action_of total (count - number) number bytes ≡ Err fault
     clause_refused fault read = one_ahead ∙ rw read

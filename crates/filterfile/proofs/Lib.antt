@@ -1,7 +1,7 @@
 pub mod Accepting
 pub mod Answered
 pub mod ClauseTurns
-pub mod Filling
+pub mod Handing
 pub mod Fitting
 pub mod Heads
 pub mod Parted

@@ -1,8 +1,8 @@
 -- A file that is read: from its head, its clauses and its default.
-use Rattle.std.proofs.Common.{◌≡◌, ℕ, List, length, Ok, Err, Result, ap, arith}
+use Rattle.std.proofs.Common.{◌≡◌, ℕ, List, length, ◌++◌, drop, Ok, Err, Result, sym, ap, ◌∙◌, arith}
 use Rattle.family.specs.declared.clauses.Clause.{Clause}
 use Rattle.fields.specs.declared.faults.Fault.{Fault}
-use Rattle.filterfile.specs.Files.{head_of, clauses_of, behind_of, default_of, file_of}
+use Rattle.filterfile.specs.Files.{head_of, clauses_of, behind_of, default_of, file_of, answer_of, places_after}
 use Rattle.fields.specs.Reading.{Read}
 use Rattle.filterfile.proofs.ClauseTurns.{clauses-count}
 
@@ -20,14 +20,18 @@ module _ {R A : Type 0} (region_of : List ℕ → Read R) (action_of : List ℕ 
     pub clauses : List (Clause R A)
     pub read : clauses_of region_of action_of (length bytes) count 0 body ≡ Ok (clauses, rest)
     pub size : length clauses ≡ count
-    pub file : file_of region_of action_of code memory bytes ≡ Ok (clauses, action)
+    pub answer : Ok (count, action) ≡ answer_of (file_of region_of action_of code memory bytes)
+    pub places : (entry : List (Clause R A)) → clauses ++ drop (length clauses) entry ≡ places_after entry (file_of region_of action_of code memory bytes)
 
   pub whole_file : head_of code memory bytes ≡ Ok (count, body) → behind_of (clauses_of region_of action_of (length bytes) count 0 body) ≡ Ok rest → default_of action_of (length bytes) rest ≡ Ok action → WholeFile
   whole_file head clauses last =
       let all = behind_read (clauses_of region_of action_of (length bytes) count 0 body) rest clauses in
+      let size = clauses-count region_of action_of (length bytes) count 0 body all.0 rest all.1 in
+      let file = file-from all.0 head all.1 last in
       record {
         clauses = all.0;
         read = all.1;
-        size = clauses-count region_of action_of (length bytes) count 0 body all.0 rest all.1;
-        file = file-from all.0 head all.1 last;
+        size = size;
+        answer = ap (λ n. Ok (n, action)) (sym size) ∙ ap answer_of (sym file);
+        places = λ entry. ap (places_after entry) (sym file);
       }

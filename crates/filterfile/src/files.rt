@@ -1,36 +1,38 @@
 // A whole file read into lent clause memory: first checked, then filled in.
-ghost use Rattle.std.specs.Prelude.{◌≡◌, ℕ, ◌≤◌, List, ◌++◌, length, drop, Ok};
+ghost use Rattle.std.specs.Prelude.{◌≡◌, length, IfOk};
 ghost use Rattle.filterfile.specs.AcceptedFiles.{Rightly};
-ghost use Rattle.filterfile.specs.Files.{head_of, usable_places, clause_of, clauses_of, behind_of, default_of, file_of, answer_of, places_after};
+ghost use Rattle.filterfile.specs.Files.{head_of, usable_places, in_part, clause_of, clauses_of, behind_of, default_of, file_of, answer_of, places_after, HandedOver};
 ghost use Rattle.fields.specs.Reading.{seen, seen_rest};
+ghost use Rattle.fields.specs.declared.faults.Part.TheVariants.{Clause as InClause};
 
 use family::Clause;
-use fields::{Fault, FaultKind, Part, RecordFault, read_u8};
+use fields::{Fault, FaultKind, Number, Part, RecordFault};
 use records::{Recorded, RecordedAction};
 
 // How many clauses a file may have.
-const LIMIT: u8 = 64;
+pub(crate) const LIMIT: usize = 64;
 
 // How many of so many places are used for clauses: all but one for the default, and at most the limit.
 pub fn usable_places(memory: usize) -> usize
     ensures { result ≡ usable_places memory }
 {
-    memory.saturating_sub(1).min(LIMIT as usize)
+    memory.saturating_sub(1).min(LIMIT)
 }
 
 // The number of clauses, behind the family code.
-fn read_head(code: u8, memory: usize, bytes: &[u8]) -> Result<(u8, &[u8]), RecordFault>
+fn read_head(code: u8, memory: usize, bytes: &[u8]) -> Result<(usize, &[u8]), RecordFault>
     ensures { seen result ≡ head_of code memory bytes.now }
 {
-    let (family, rest) = read_u8(bytes)?;
+    let (family, rest) = u8::read(bytes)?;
     if family != code {
         return Err(RecordFault::at(FaultKind::OtherFamily, bytes));
     }
-    let (count, body) = read_u8(rest)?;
+    let (count, body) = u8::read(rest)?;
+    let count = usize::from(count);
     if count > LIMIT {
         return Err(RecordFault::at(FaultKind::CountAboveLimit, rest));
     }
-    if memory == 0 || count as usize > usable_places(memory) {
+    if memory == 0 || count > usable_places(memory) {
         return Err(RecordFault::at(FaultKind::NoPlaces, rest));
     }
     Ok((count, body))
@@ -41,27 +43,27 @@ fn read_clause<R: Recorded, A: RecordedAction>(
 ) -> Result<(Clause<R, A>, &[u8]), RecordFault>
     ensures { seen result ≡ clause_of R.Recorded.reads A.RecordedAction.reads bytes.now }
 {
-    let (region, rest) = R::read(bytes);
-    let region = region?;
-    let (action, rest) = A::read(rest);
-    let action = action?;
+    let (region, rest) = R::read(bytes)?;
+    let (action, rest) = A::read(rest)?;
     Ok((Clause { region, action }, rest))
 }
 
-// Reads so many clauses and keeps none of them: answers the bytes behind them.
-fn check_clauses<R: Recorded, A: RecordedAction>(
+// Reads so many clauses and hands each to `keep` with its number: answers the bytes behind them.
+fn read_clauses<'a, R: Recorded, A: RecordedAction, F: FnMut(usize, Clause<R, A>)>(
     total: usize,
-    count: u8,
-    bytes: &[u8],
-) -> Result<&[u8], Fault>
-    ensures { seen_rest result ≡ behind_of (clauses_of R.Recorded.reads A.RecordedAction.reads total count 0 bytes.now) }
+    count: usize,
+    bytes: &'a [u8],
+    keep: &mut F,
+) -> Result<&'a [u8], Fault>
+    requires { F.IsAlwaysCallable keep.old }
+    ensures rest { seen_rest result ≡ behind_of (clauses_of R.Recorded.reads A.RecordedAction.reads total count 0 bytes.now) }
+    ensures kept { IfOk (clauses_of R.Recorded.reads A.RecordedAction.reads total count 0 bytes.now) (λ p. HandedOver F.step 0 keep.old p.0 keep.new) }
 {
     let mut rest = bytes;
-    for number in 0..count as usize {
-        let (_, behind) = match read_clause::<R, A>(rest) {
-            Ok(read) => read,
-            Err(fault) => return Err(fault.in_part(Part::Clause(number), total)),
-        };
+    for number in 0..count {
+        let read = read_clause::<R, A>(rest);
+        let (clause, behind) = read.map_err(|fault| fault.in_part(Part::Clause(number), total))?;
+        keep(number, clause);
         rest = behind;
     }
     Ok(rest)
@@ -71,33 +73,12 @@ fn check_clauses<R: Recorded, A: RecordedAction>(
 fn read_default<A: RecordedAction>(total: usize, bytes: &[u8]) -> Result<A, Fault>
     ensures { result ≡ default_of A.RecordedAction.reads total bytes.now }
 {
-    match A::read(bytes) {
-        (Ok(action), []) => Ok(action),
-        (Ok(_), spare) => {
-            let fault = RecordFault::at(FaultKind::SpareBytes, spare);
-            Err(fault.in_part(Part::Default, total))
-        }
-        (Err(fault), _) => Err(fault.in_part(Part::Default, total)),
-    }
-}
-
-// Puts the clauses that the bytes begin with into the first places.
-fn fill_clauses<R: Recorded, A: RecordedAction>(
-    count: u8,
-    bytes: &[u8],
-    places: &mut [Clause<R, A>],
-)
-    requires { count ≤ length places.old }
-    ensures { (total : ℕ) (clauses : List (Clause R A)) (behind : List ℕ) → clauses_of R.Recorded.reads A.RecordedAction.reads total count 0 bytes.now ≡ Ok (clauses, behind) → places.new ≡ clauses ++ drop (length clauses) places.old }
-{
-    let mut rest = bytes;
-    for number in 0..count as usize {
-        let Ok((clause, behind)) = read_clause::<R, A>(rest) else {
-            return;
-        };
-        places[number] = clause;
-        rest = behind;
-    }
+    let fault = match A::read(bytes) {
+        Ok((action, [])) => return Ok(action),
+        Ok((_, spare)) => RecordFault::at(FaultKind::SpareBytes, spare),
+        Err(fault) => fault,
+    };
+    Err(fault.in_part(Part::Default, total))
 }
 
 // Reads a file of the family of this code into the first places: answers the number of its clauses and its default.
@@ -112,12 +93,15 @@ pub fn read_file<R: Recorded, A: RecordedAction>(
     ensures file { Rightly R.Recorded.reads A.RecordedAction.reads code (length places.old) bytes.now result places.new }
 {
     let total = bytes.len();
-    let (count, body) = match read_head(code, places.len(), bytes) {
-        Ok(head) => head,
-        Err(fault) => return Err(fault.in_part(Part::Head, total)),
-    };
-    let rest = check_clauses::<R, A>(total, count, body)?;
+    let head = read_head(code, places.len(), bytes);
+    let (count, body) = head.map_err(|fault| fault.in_part(Part::Head, total))?;
+    let rest = read_clauses::<R, A, _>(total, count, body, &mut |_, _| ())?;
     let default = read_default::<A>(total, rest)?;
-    fill_clauses(count, body, places);
-    Ok((count as usize, default))
+    let mut fill = |number: usize, clause: Clause<R, A>| {
+        if number < places.len() {
+            places[number] = clause;
+        }
+    };
+    read_clauses(total, count, body, &mut fill)?;
+    Ok((count, default))
 }

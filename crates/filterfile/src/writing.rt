@@ -1,10 +1,10 @@
 // A whole file written to a lent buffer.
 ghost use Rattle.std.specs.Prelude.{◌≡◌, ◌≤◌, length};
-ghost use Rattle.std.specs.List.{flat_map};
-ghost use Rattle.buffers.specs.Buffers.{Placed};
-ghost use Rattle.filterfile.specs.WrittenFiles.{number_of, write_answer, written_file, clause_bytes, file_bytes, ReadBack, WrittenBack, ClausesFit};
+ghost use Rattle.buffers.specs.Outputs.{Puts};
+ghost use Rattle.filterfile.specs.WrittenFiles.{number_of, write_answer, written_file, file_bytes, ReadBack, WrittenBack, ClausesFit};
 
-use buffers::put_byte;
+use crate::files::LIMIT;
+use buffers::{Output, Text, write_text};
 use family::Clause;
 use records::{Written, WrittenAction};
 
@@ -12,55 +12,45 @@ use records::{Written, WrittenAction};
 #[derive(Clone, Copy, PartialEq, Eq, Debug)]
 pub enum WriteError {
     // More than 64 clauses.
-    CountAboveLimit,
+    CountAboveLimit = 14,
     // The file is longer than the buffer.
-    BufferTooShort,
+    BufferTooShort = 19,
 }
 
 impl WriteError {
     pub fn number(self) -> u8
         ensures { result ≡ number_of self }
     {
-        match self {
-            WriteError::CountAboveLimit => 14,
-            WriteError::BufferTooShort => 19,
-        }
+        self as u8
     }
 }
 
-// Puts the records of the clauses one behind the other.
-fn put_clauses<R: Written, A: WrittenAction>(
-    out: &mut [u8],
-    at: usize,
-    clauses: &[Clause<R, A>],
-) -> usize
-    ensures bytes { Placed out.old at (flat_map (clause_bytes R.Written.writes A.WrittenAction.writes) clauses.now) result out.new }
-    ensures numbers { ClausesFit R.Written.fits A.WrittenAction.fits clauses.now }
-{
-    let mut end = at;
-    for clause in clauses {
-        let behind = clause.region.write(out, end);
-        end = clause.action.write(out, behind);
-    }
-    end
-}
-
-// Puts a file of at most 64 clauses to the front of the buffer.
-fn put_file<R: Written, A: WrittenAction>(
-    out: &mut [u8],
+// A file of the family of a code.
+#[derive(Drop)]
+struct File<'a, R, A> {
     code: u8,
-    clauses: &[Clause<R, A>],
+    clauses: &'a [Clause<R, A>],
     default: A,
-) -> usize
-    requires { length clauses.now ≤ 64 }
-    ensures bytes { Placed out.old 0 (file_bytes R.Written.writes A.WrittenAction.writes code clauses.now default) result out.new }
-    ensures numbers { ClausesFit R.Written.fits A.WrittenAction.fits clauses.now }
-    ensures default { A.WrittenAction.fits default }
-{
-    let at = put_byte(out, 0, code);
-    let at = put_byte(out, at, clauses.len() as u8);
-    let at = put_clauses(out, at, clauses);
-    default.write(out, at)
+    ghost few: { length clauses.now ≤ 64 },
+}
+
+// Putting a file tells that its numbers fit their fields.
+impl<'a, R: Written, A: WrittenAction> Text for File<'a, R, A> {
+    ghost text = { λ file. file_bytes R.Written.writes A.WrittenAction.writes file.code file.clauses.now file.default };
+
+    fn put(&self, out: &mut Output)
+        ensures bytes { Puts out.old (file_bytes R.Written.writes A.WrittenAction.writes self.now.code self.now.clauses.now self.now.default) out.new }
+        ensures numbers { ClausesFit R.Written.fits A.WrittenAction.fits self.now.clauses.now }
+        ensures default { A.WrittenAction.fits self.now.default }
+    {
+        out.put_byte(self.code);
+        out.put_byte(self.clauses.len() as u8);
+        for clause in self.clauses {
+            clause.region.write(out);
+            clause.action.write(out);
+        }
+        self.default.write(out);
+    }
 }
 
 // Writes the file of these clauses and this default, of the family of this code, to the front of the buffer:
@@ -76,11 +66,15 @@ pub fn write_file<R: Written, A: WrittenAction>(
     ensures back { ReadBack R.Written.writes A.WrittenAction.writes R.Recorded.reads A.RecordedAction.reads code clauses.now default }
     ensures kept { WrittenBack R.Written.writes A.WrittenAction.writes R.Recorded.reads A.RecordedAction.reads code clauses.now default }
 {
-    if clauses.len() > 64 {
+    if clauses.len() > LIMIT {
         return Err(WriteError::CountAboveLimit);
     }
-    if put_file(&mut [], code, clauses, default) > out.len() {
-        return Err(WriteError::BufferTooShort);
-    }
-    Ok(put_file(out, code, clauses, default))
+    let file = File {
+        code,
+        clauses,
+        default,
+    };
+    // Tells that the numbers fit their fields, as a file that is read back needs.
+    file.put(&mut Output::new(&mut []));
+    write_text(&file, out).ok_or(WriteError::BufferTooShort)
 }

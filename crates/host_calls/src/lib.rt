@@ -1,4 +1,5 @@
 // The calls for a host program in another language, which host_calls_c exports: an answer is one number.
+// They stand in two crates, since a crate is a library for Rattle or a static library for C.
 #![tactic(auto)]
 
 ghost use Rattle.std.specs.Prelude.{◌≡◌};
@@ -22,7 +23,7 @@ pub fn rowlist_compare(left: &[u8], right: &[u8], listing: &mut [u8]) -> u32
 {
     match write_compared(left, right, listing) {
         Ok(length) => length as u32,
-        Err(unwritten) => REFUSED + unwritten.number() as u32,
+        Err(unwritten) => REFUSED + u32::from(unwritten.number()),
     }
 }
 
@@ -32,6 +33,6 @@ pub fn rowlist_check(file: &[u8]) -> u32
 {
     match check(file) {
         Ok(()) => 0,
-        Err(fault) => REFUSED + fault.number() as u32,
+        Err(fault) => REFUSED + u32::from(fault.number()),
     }
 }

@@ -1,4 +1,5 @@
 // The exports for a host program in another language. A slice crosses as a pointer and then a length, an answer as one number.
+// Each is the call of host_calls: a crate is a library for Rattle or a static library for C, and never both.
 #![tactic(auto)]
 
 ghost use Rattle.std.specs.Prelude.{◌≡◌};

@@ -1,7 +1,8 @@
--- A region by its number, and a part of a list, which the list may not have in full.
-use Rattle.std.proofs.Common.{◌≡◌, ℕ, zero, suc, ◌+◌, ◌-◌, ◌<◌, ◌≤◌, min, List, [], ◌∷◌, length, get_or, take, drop, sym, refl, ap, ◌∙◌, inl, inr, arith}
+-- A region by its number, and a part of a list, which the list may not reach.
+use Rattle.std.proofs.Common.{◌≡◌, ℕ, zero, suc, ◌+◌, ◌-◌, ◌<◌, ◌≤◌, ◌⊎◌, List, [], ◌∷◌, length, get_or, drop, Option, Some, None, Bor, sym, refl, ap, ◌∙◌, inl, inr, arith}
+use Rattle.std.specs.List.{slice_range}
+use Rattle.std.specs.Option.{MatchOption, UnwrapsOrElse}
 use Rattle.std.proofs.lemmas.List.{take_all, drop_all, length-drop}
-use Rattle.std.proofs.lemmas.Bool.{cases_lt}
 use Rattle.supplied.specs.declared.ranges.PrefixRange.{PrefixRange}
 use Rattle.listing.specs.Regions.{region_text, numbered_text}
 
@@ -15,23 +16,8 @@ numbered_past [] n h = refl
 numbered_past (x ∷ rs) zero h = absurd (omega arith)
 numbered_past (x ∷ rs) (suc n) h = numbered_past rs n (omega arith)
 
-take_within : {X : Type 0} (n : ℕ) (xs : List X) → take (min n (length xs)) xs ≡ take n xs
-take_within n xs =
-    elim (cases_lt n (length xs)) [
-      | inl l ↦ let e : min n (length xs) ≡ n = omega arith in ap (λ k. take k xs) e
-      | inr g ↦ take_all (min n (length xs)) xs (omega arith) ∙ sym (take_all n xs g)
-    ]
-
-drop-within : {X : Type 0} (n : ℕ) (xs : List X) → drop (min n (length xs)) xs ≡ drop n xs
-drop-within n xs =
-    elim (cases_lt n (length xs)) [
-      | inl l ↦ let e : min n (length xs) ≡ n = omega arith in ap (λ k. drop k xs) e
-      | inr g ↦ drop_all (min n (length xs)) xs (omega arith) ∙ sym (drop_all n xs g)
-    ]
-
--- the part from i on of length k, both cut to the list's length
-pub part_within : {X : Type 0} (xs : List X) (start number i k : ℕ) → i ≡ min start (length xs) → k ≡ min number (length xs - i) → take (i + k - i) (drop i xs) ≡ take number (drop start xs)
-part_within xs start number i k e f =
-    let l : length (drop start xs) ≡ length xs - start = length-drop start xs in
-    let n : i + k - i ≡ min number (length (drop start xs)) = omega arith in
-    rw (n, e, drop-within start xs) (take_within number (drop start xs))
+-- what is got of a list from a place on, or nothing
+pub got_from : {X : Type 0} (xs : List X) (n : ℕ) (o : Option (Bor (List X))) (r : Bor (List X)) → MatchOption o ((length xs < n) ⊎ (length xs < length xs)) (λ x. (n ≤ length xs) × (length xs ≤ length xs) × (x.now ≡ slice_range xs n (length xs)) × (length x.now + n ≡ length xs)) → UnwrapsOrElse o (λ x. x.now ≡ []) r → r.now ≡ drop n xs
+got_from xs n None r h e = e ∙ sym (drop_all n xs (elim h [ inl l ↦ omega arith | inr l ↦ absurd (omega arith) ]))
+got_from xs n (Some x) r h e =
+    ap (λ b. b.now) e ∙ h.2 ∙ take_all (length xs - n) (drop n xs) (omega (arith, length-drop n xs))

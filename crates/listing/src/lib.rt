@@ -8,5 +8,5 @@ mod numbers;
 mod octets;
 mod regions;
 
-pub use declines::{Declined, declined_text, write_declined};
-pub use listings::{listing_length, listing_text, write_listing};
+pub use declines::Declined;
+pub use listings::Listing;

@@ -1,15 +1,15 @@
 // A number in decimal.
 ghost use Rattle.std.specs.Prelude.{decimal};
-ghost use Rattle.buffers.specs.Buffers.{Placed};
+ghost use Rattle.buffers.specs.Outputs.{Puts};
 
-use buffers::put_byte;
+use buffers::Output;
 
-pub(crate) fn put_number(out: &mut [u8], at: usize, number: usize) -> usize
-    ensures { Placed out.old at (decimal number) result out.new }
+pub(crate) fn put_number(out: &mut Output, number: usize)
+    ensures { Puts out.old (decimal number) out.new }
 {
     if number < 10 {
-        return put_byte(out, at, b'0' + number as u8);
+        return out.put_byte(b'0' + number as u8);
     }
-    let last = put_number(out, at, number / 10);
-    put_byte(out, last, b'0' + (number % 10) as u8)
+    put_number(out, number / 10);
+    out.put_byte(b'0' + (number % 10) as u8);
 }

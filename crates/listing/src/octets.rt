@@ -1,9 +1,9 @@
-// An octet in decimal, its digits read from a table.
+// An octet in decimal. A rule of the project: its digits are read from a table of three-digit entries.
 ghost use Rattle.std.specs.Prelude.{◌≡◌, ◌+◌, length};
-ghost use Rattle.buffers.specs.Buffers.{Placed};
+ghost use Rattle.buffers.specs.Outputs.{Puts};
 ghost use Rattle.listing.specs.Octets.{octet_text, spelled_octets};
 
-use buffers::put_text;
+use buffers::Output;
 
 // The octets in order, three digits each.
 const DIGITS: [u8; 768] = *b"\
@@ -31,19 +31,17 @@ fn spelled_octets() -> &'static [u8]
 fn leading_zeros(octet: u8) -> usize
     ensures { result + length (octet_text octet) ≡ 3 }
 {
-    if octet < 10 {
-        2
-    } else if octet < 100 {
-        1
-    } else {
-        0
+    match octet {
+        0..=9 => 2,
+        10..=99 => 1,
+        _ => 0,
     }
 }
 
-pub(crate) fn put_octet(out: &mut [u8], at: usize, octet: u8) -> usize
-    ensures { Placed out.old at (octet_text octet) result out.new }
+pub(crate) fn put_octet(out: &mut Output, octet: u8)
+    ensures { Puts out.old (octet_text octet) out.new }
 {
     let entry = 3 * octet as usize;
     let first = entry + leading_zeros(octet);
-    put_text(out, at, &spelled_octets()[first..entry + 3])
+    out.put_bytes(&spelled_octets()[first..entry + 3]);
 }

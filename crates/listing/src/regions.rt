@@ -1,32 +1,32 @@
 // A region as text: dotted address, slash, prefix length, blank, low, hyphen, high.
-ghost use Rattle.buffers.specs.Buffers.{Placed};
+ghost use Rattle.buffers.specs.Outputs.{Puts};
 ghost use Rattle.listing.specs.Regions.{address_text, region_text};
 
 use crate::octets::put_octet;
-use buffers::put_byte;
+use buffers::Output;
 use supplied::PrefixRange;
 
-fn put_address(out: &mut [u8], at: usize, address: u32) -> usize
-    ensures { Placed out.old at (address_text address) result out.new }
+fn put_address(out: &mut Output, address: u32)
+    ensures { Puts out.old (address_text address) out.new }
 {
     let [a, b, c, d] = address.to_be_bytes();
-    let at = put_octet(out, at, a);
-    let at = put_byte(out, at, b'.');
-    let at = put_octet(out, at, b);
-    let at = put_byte(out, at, b'.');
-    let at = put_octet(out, at, c);
-    let at = put_byte(out, at, b'.');
-    put_octet(out, at, d)
+    put_octet(out, a);
+    out.put_byte(b'.');
+    put_octet(out, b);
+    out.put_byte(b'.');
+    put_octet(out, c);
+    out.put_byte(b'.');
+    put_octet(out, d);
 }
 
-pub(crate) fn put_region(out: &mut [u8], at: usize, region: PrefixRange) -> usize
-    ensures { Placed out.old at (region_text region) result out.new }
+pub(crate) fn put_region(out: &mut Output, region: PrefixRange)
+    ensures { Puts out.old (region_text region) out.new }
 {
-    let at = put_address(out, at, region.address());
-    let at = put_byte(out, at, b'/');
-    let at = put_octet(out, at, region.length());
-    let at = put_byte(out, at, b' ');
-    let at = put_octet(out, at, region.low());
-    let at = put_byte(out, at, b'-');
-    put_octet(out, at, region.high())
+    put_address(out, region.address());
+    out.put_byte(b'/');
+    put_octet(out, region.length());
+    out.put_byte(b' ');
+    put_octet(out, region.low());
+    out.put_byte(b'-');
+    put_octet(out, region.high());
 }

@@ -1,5 +1,5 @@
 -- The bytes that the record of each kind takes.
-use Rattle.std.proofs.Common.{◌≡◌, ℕ, zero, suc, ◌+◌, ◌-◌, ◌*◌, ◌/◌, ◌%◌, ◌<◌, ◌≤◌, true, cond, ◌&&◌, eqb, ltb, List, [], ◌∷◌, length, Result, sym, refl, ap, ◌∙◌, ⊎_elim, mul-zero, mul-suc, arith}
+use Rattle.std.proofs.Common.{◌≡◌, ℕ, zero, suc, ◌+◌, ◌-◌, ◌*◌, ◌/◌, ◌%◌, ◌<◌, ◌≤◌, true, cond, ◌&&◌, eqb, ltb, List, [], ◌∷◌, length, sym, refl, ap, ◌∙◌, ⊎_elim, mul-zero, mul-suc, arith}
 use lib.Count.{ones, ones_step}
 use Rattle.std.proofs.lemmas.Bool.{eqb-true, ltb-true, ne_eqb, or_cases, and_parts}
 use Rattle.supplied.specs.declared.actions.RouteAction.{RouteAction}
@@ -7,7 +7,6 @@ use Rattle.supplied.specs.declared.actions.Verdict.{Verdict}
 use Rattle.supplied.specs.declared.ranges.PrefixRange.{PrefixRange}
 use Rattle.supplied.specs.declared.spans.Span.{Span}
 use Rattle.records.specs.declared.actions.ActionNumbers.{ActionNumbers}
-use Rattle.fields.specs.declared.faults.RecordFault.{RecordFault}
 use Rattle.records.specs.declared.ranges.RangeNumbers.{RangeNumbers}
 use Rattle.records.specs.declared.spans.SpanNumbers.{SpanNumbers}
 use Rattle.records.specs.declared.verdicts.VerdictNumbers.{VerdictNumbers}
@@ -17,7 +16,7 @@ use Rattle.records.specs.ActionRecords.{action_field, action_layout, is_accept}
 use Rattle.fields.specs.Fields.{field_of, given_of}
 use Rattle.fields.specs.Layouts.{places_from, places_of, record_of}
 use Rattle.records.specs.RangeRecords.{range_field, range_layout}
-use Rattle.fields.specs.Reading.{outcome_of, rest_of}
+use Rattle.fields.specs.Reading.{Read}
 use Rattle.fields.specs.Sizes.{TookBytes}
 use Rattle.records.specs.Sizes.{range_size, action_size, span_size}
 use Rattle.fields.proofs.Places.{parity, at_odd, at_even, count_places, places_count}
@@ -36,10 +35,10 @@ action_field_lem : (n : ActionNumbers) (place : ℕ) → Takes (same_width 4 pla
 action_field_lem n place = then_made 4 (field_of 4) _ (field_takes 4)
 
 span_field_lem : (TOP : ℕ) (n : SpanNumbers TOP) (place : ℕ) → Takes (same_width (span_width TOP) place) (span_field TOP n place)
-span_field_lem TOP n zero = then_made (span_width TOP) (given_of (span_width TOP) n.low) _ (given_takes (span_width TOP) n.low)
+span_field_lem TOP n zero = then_made (span_width TOP) (given_of (span_width TOP) n.low.0) _ (given_takes (span_width TOP) n.low.0)
 span_field_lem TOP n (suc place) =
     rw (ne_eqb (suc place) 0 (λ e. omega arith))
-    (then_made (span_width TOP) (given_of (span_width TOP) n.high) _ (given_takes (span_width TOP) n.high))
+    (then_made (span_width TOP) (given_of (span_width TOP) n.high.0) _ (given_takes (span_width TOP) n.high.0))
 
 verdict_field : (n : VerdictNumbers) (place : ℕ) → Takes (same_width 0 place) (verdict_layout.taken n place)
 verdict_field n place bytes x rest same = omega (arith, ap length (same_parts same).1)
@@ -95,14 +94,14 @@ verdict_whole zero known = refl
 verdict_whole (suc zero) known = refl
 verdict_whole (suc (suc map)) known = absurd (omega (arith, ltb-true (suc (suc map)) 2 known))
 
-pub range_took : (bytes : List ℕ) (r : Result PrefixRange RecordFault) (rest : List ℕ) → r ≡ outcome_of (record_of range_layout bytes) → rest ≡ rest_of bytes (record_of range_layout bytes) → TookBytes range_size bytes r rest
+pub range_took : (bytes : List ℕ) (read : Read PrefixRange) → read ≡ record_of range_layout bytes → TookBytes range_size bytes read
 range_took = took_bytes range_layout byte_or_word range_size range_field_lem range_whole
 
-pub action_took : (bytes : List ℕ) (r : Result RouteAction RecordFault) (rest : List ℕ) → r ≡ outcome_of (record_of action_layout bytes) → rest ≡ rest_of bytes (record_of action_layout bytes) → TookBytes action_size bytes r rest
+pub action_took : (bytes : List ℕ) (read : Read RouteAction) → read ≡ record_of action_layout bytes → TookBytes action_size bytes read
 action_took = took_bytes action_layout (same_width 4) action_size action_field_lem action_whole
 
-pub span_took : (TOP : ℕ) (bytes : List ℕ) (r : Result (Span TOP) RecordFault) (rest : List ℕ) → r ≡ outcome_of (record_of (span_layout TOP) bytes) → rest ≡ rest_of bytes (record_of (span_layout TOP) bytes) → TookBytes (span_size TOP) bytes r rest
+pub span_took : (TOP : ℕ) (bytes : List ℕ) (read : Read (Span TOP)) → read ≡ record_of (span_layout TOP) bytes → TookBytes (span_size TOP) bytes read
 span_took TOP = took_bytes (span_layout TOP) (same_width (span_width TOP)) (span_size TOP) (span_field_lem TOP) (span_whole TOP)
 
-pub verdict_took : (bytes : List ℕ) (r : Result Verdict RecordFault) (rest : List ℕ) → r ≡ outcome_of (record_of verdict_layout bytes) → rest ≡ rest_of bytes (record_of verdict_layout bytes) → TookBytes action_size bytes r rest
+pub verdict_took : (bytes : List ℕ) (read : Read Verdict) → read ≡ record_of verdict_layout bytes → TookBytes action_size bytes read
 verdict_took = took_bytes verdict_layout (same_width 0) action_size verdict_field verdict_whole

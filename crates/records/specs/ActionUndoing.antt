@@ -1,5 +1,5 @@
 -- A route action is read back from its record, and the record is written back.
-use Rattle.std.specs.Prelude.{◌≡◌, ℕ, zero, suc, ◌^◌, ◌<◌, true, false, cond, ◌&&◌, List, [], ◌∷◌, ◌++◌, Some, None, Ok, ◌==◌, nat_lt, refl}
+use Rattle.std.specs.Prelude.{◌≡◌, ℕ, zero, suc, ◌^◌, ◌<◌, true, cond, ◌&&◌, List, [], ◌∷◌, ◌++◌, Some, None, Ok, ◌==◌, nat_lt, refl}
 use Rattle.std.proofs.Common.{sym, ap, ◌∙◌, ⊎_elim, arith}
 use Rattle.std.proofs.lemmas.List.{append_assoc}
 use Rattle.std.proofs.lemmas.Bool.{eqb-true, ltb-true, or_cases, and_parts}
@@ -60,9 +60,6 @@ number_kept n place bytes all m rest same =
     let spelt = field_kept 4 bytes all read.0.0 rest (read.1 ∙ ap (λ l. Ok (read.0.0, l)) parts.1) in
     record { value = read.0.0; end = sym parts.0; bytes_are = spelt.bytes_are; octets = spelt.octets }
 
-never : false ≡ true → ⊥
-never h = let z : ◌≡◌ {A = ℕ} 0 1 = cc in omega arith
-
 -- by the map of what was read
 by_map : (map : ℕ) (body rest : List ℕ) (n : ActionNumbers) (a : RouteAction) → Octets body → action_layout.defined map ≡ true → fields_of action_field (places_of (action_layout.field_bits map)) none body ≡ Ok (n, rest) → action_layout.made map n ≡ Ok a → map ∷ body ≡ action_bytes a ++ rest
 unfolding places_of places_from
@@ -75,7 +72,7 @@ by_map (suc zero) body rest n a all known fields made =
     let is : Accept n.preference n.med ≡ a = cc made in
     ap (λ l. 1 ∷ l) parts.1 ∙ ap (λ (q : ActionNumbers). action_bytes (Accept q.preference q.med) ++ rest) parts.0
     ∙ ap (λ x. action_bytes x ++ rest) is
-by_map (suc (suc zero)) body rest n a all known fields made = absurd (never known)
+by_map (suc (suc zero)) body rest n a all known fields made = cc
 by_map (suc (suc (suc zero))) body rest n a all known fields made =
     let read = both_steps (action_field none 1 body) _ (n, rest) fields in
     let first = number_kept none 1 body all read.0.0 read.0.1 read.1 in
@@ -84,7 +81,7 @@ by_map (suc (suc (suc zero))) body rest n a all known fields made =
     ap (λ l. 3 ∷ l) (first.bytes_are ∙ ap (λ l. bytes_of 4 first.value ++ l) parts.1 ∙ sym (append_assoc (bytes_of 4 first.value) [] rest))
     ∙ ap (λ (q : ActionNumbers). action_bytes (Accept q.preference q.med) ++ rest) (sym first.end ∙ parts.0)
     ∙ ap (λ x. action_bytes x ++ rest) is
-by_map (suc (suc (suc (suc zero)))) body rest n a all known fields made = absurd (never known)
+by_map (suc (suc (suc (suc zero)))) body rest n a all known fields made = cc
 by_map (suc (suc (suc (suc (suc zero))))) body rest n a all known fields made =
     let read = both_steps (action_field none 2 body) _ (n, rest) fields in
     let first = number_kept none 2 body all read.0.0 read.0.1 read.1 in
@@ -93,7 +90,7 @@ by_map (suc (suc (suc (suc (suc zero))))) body rest n a all known fields made =
     ap (λ l. 5 ∷ l) (first.bytes_are ∙ ap (λ l. bytes_of 4 first.value ++ l) parts.1)
     ∙ ap (λ (q : ActionNumbers). action_bytes (Accept q.preference q.med) ++ rest) (sym first.end ∙ parts.0)
     ∙ ap (λ x. action_bytes x ++ rest) is
-by_map (suc (suc (suc (suc (suc (suc zero)))))) body rest n a all known fields made = absurd (never known)
+by_map (suc (suc (suc (suc (suc (suc zero)))))) body rest n a all known fields made = cc
 by_map (suc (suc (suc (suc (suc (suc (suc zero))))))) body rest n a all known fields made =
     let read = both_steps (action_field none 1 body) _ (n, rest) fields in
     let first = number_kept none 1 body all read.0.0 read.0.1 read.1 in

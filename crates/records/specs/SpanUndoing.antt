@@ -32,10 +32,10 @@ module _ (TOP : ℕ) where
   width_at place = span_width TOP
 
   abbrev absent_at : SpanNumbers TOP → ℕ → ℕ
-  absent_at n place = cond (place == 0) n.low n.high
+  absent_at n place = cond (place == 0) n.low.0 n.high.0
 
   abbrev put : SpanNumbers TOP → ℕ → ℕ → SpanNumbers TOP
-  put n place v = cond (place == 0) (span_numbers TOP v n.high) (span_numbers TOP n.low v)
+  put n place v = cond (place == 0) (span_numbers TOP v n.high.0) (span_numbers TOP n.low.0 v)
 
   reads : (n : SpanNumbers TOP) (place : ℕ) (bytes : List ℕ) → span_field TOP n place bytes ≡ ◌>>=◌ (given_of (width_at place) (absent_at n place) bytes) (λ q. Ok (put n place q.0, q.1))
   reads n zero bytes = refl
@@ -55,7 +55,7 @@ module _ (TOP : ℕ) where
   start = span_numbers TOP 0 TOP
 
   abbrev made : SpanNumbers TOP → Result (Span TOP) MakeError
-  made n = made_span TOP n.low n.high
+  made n = made_span TOP n.low.0 n.high.0
 
   fitting : (s : Span TOP) → SpanFits TOP s → AllFit (Fit width_at absent_at put) 0 (values_of s)
   fitting s fit =

@@ -1,16 +1,16 @@
 // The record of a route action: reject, or accept with numbers that may be absent.
 ghost use Rattle.std.specs.Prelude.{◌≡◌};
-ghost use Rattle.buffers.specs.Buffers.{Placed};
+ghost use Rattle.buffers.specs.Outputs.{Puts};
 ghost use Rattle.records.specs.ActionRecords.{action_layout, NumberFits, number_bit, number_bytes, ActionFits, action_bytes};
 ghost use Rattle.records.specs.ActionUndoing.{action_undoing};
 ghost use Rattle.fields.specs.Layouts.{record_of};
-ghost use Rattle.fields.specs.Reading.{outcome_of, rest_of};
+ghost use Rattle.fields.specs.Reading.{seen};
 ghost use Rattle.fields.specs.Sizes.{TookBytes};
 ghost use Rattle.records.specs.Sizes.{action_size};
 
 use crate::recorded::{RecordedAction, WrittenAction};
-use buffers::put_byte;
-use fields::{Layout, RecordFault, put_u32, read_record, read_u32};
+use buffers::Output;
+use fields::{Layout, Number, RecordFault, read_record};
 use supplied::{MakeError, RouteAction};
 
 #[derive(Clone, Copy)]
@@ -42,16 +42,16 @@ impl Layout for ActionNumbers {
     }
 
     fn take_field(self, place: u32, bytes: &[u8]) -> Result<(ActionNumbers, &[u8]), RecordFault> {
-        let (number, rest) = read_u32(bytes)?;
+        let (number, rest) = u32::read(bytes)?;
         let numbers = if place == 1 {
             ActionNumbers {
                 preference: Some(number),
-                med: self.med,
+                ..self
             }
         } else {
             ActionNumbers {
-                preference: self.preference,
                 med: Some(number),
+                ..self
             }
         };
         Ok((numbers, rest))
@@ -72,30 +72,27 @@ impl Layout for ActionNumbers {
 fn number_bit(number: Option<u32>) -> u8
     ensures { result ≡ number_bit number }
 {
-    match number {
-        Some(_) => 1,
-        None => 0,
-    }
+    u8::from(number.is_some())
 }
 
 // Puts a number in four bytes, or nothing where it is absent.
-fn put_number(out: &mut [u8], at: usize, number: Option<u32>) -> usize
-    ensures bytes { Placed out.old at (number_bytes number) result out.new }
+fn put_number(number: Option<u32>, out: &mut Output)
+    ensures bytes { Puts out.old (number_bytes number) out.new }
     ensures numbers { NumberFits number }
 {
     match number {
-        Some(value) => put_u32(out, at, value),
-        None => at,
+        Some(value) => value.put(out),
+        None => out.put_bytes(&[]),
     }
 }
 
 impl RecordedAction for RouteAction {
     ghost reads = { record_of action_layout };
 
-    fn read(bytes: &[u8]) -> (Result<RouteAction, RecordFault>, &[u8])
-        ensures outcome { result.0 ≡ outcome_of (record_of action_layout bytes.now) }
-        ensures rest { result.1.now ≡ rest_of bytes.now (record_of action_layout bytes.now) }
-        ensures count { TookBytes action_size bytes.now result.0 result.1.now }
+    #[tactic(auto, using(crate::proofs::KindSizes::action_took))]
+    fn read(bytes: &[u8]) -> Result<(RouteAction, &[u8]), RecordFault>
+        ensures answer { seen result ≡ record_of action_layout bytes.now }
+        ensures count { TookBytes action_size bytes.now (seen result) }
     {
         read_record::<ActionNumbers>(bytes)
     }
@@ -108,14 +105,13 @@ impl WrittenAction for RouteAction {
 
     ghost undoing = { action_undoing };
 
-    fn write(self, out: &mut [u8], at: usize) -> usize {
+    fn write(self, out: &mut Output) {
         match self {
-            RouteAction::Reject => put_byte(out, at, 0),
+            RouteAction::Reject => out.put_byte(0),
             RouteAction::Accept { preference, med } => {
-                let map = 1 + 2 * number_bit(preference) + 4 * number_bit(med);
-                let at = put_byte(out, at, map);
-                let at = put_number(out, at, preference);
-                put_number(out, at, med)
+                out.put_byte(1 + 2 * number_bit(preference) + 4 * number_bit(med));
+                put_number(preference, out);
+                put_number(med, out);
             }
         }
     }

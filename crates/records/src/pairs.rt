@@ -2,23 +2,17 @@
 ghost use Rattle.records.specs.PairRecords.{pair_reads, pair_bytes, PairFits, pair_undoing};
 
 use crate::recorded::{Recorded, Written};
+use buffers::Output;
 use fields::RecordFault;
 use supplied::Pair;
 
 impl<F: Recorded, G: Recorded> Recorded for Pair<F, G> {
     ghost reads = { pair_reads F.Recorded.reads G.Recorded.reads };
 
-    fn read(bytes: &[u8]) -> (Result<Pair<F, G>, RecordFault>, &[u8]) {
-        let (first, rest) = F::read(bytes);
-        let first = match first {
-            Ok(first) => first,
-            Err(fault) => return (Err(fault), bytes),
-        };
-        let (second, behind) = G::read(rest);
-        match second {
-            Ok(second) => (Ok(Pair { first, second }), behind),
-            Err(fault) => (Err(fault), bytes),
-        }
+    fn read(bytes: &[u8]) -> Result<(Pair<F, G>, &[u8]), RecordFault> {
+        let (first, rest) = F::read(bytes)?;
+        let (second, behind) = G::read(rest)?;
+        Ok((Pair { first, second }, behind))
     }
 }
 
@@ -29,8 +23,8 @@ impl<F: Written, G: Written> Written for Pair<F, G> {
 
     ghost undoing = { pair_undoing F.Written.undoing G.Written.undoing };
 
-    fn write(self, out: &mut [u8], at: usize) -> usize {
-        let at = self.first.write(out, at);
-        self.second.write(out, at)
+    fn write(self, out: &mut Output) {
+        self.first.write(out);
+        self.second.write(out);
     }
 }

@@ -4,15 +4,13 @@ ghost use Rattle.supplied.specs.PrefixRanges.{prefix_holds};
 ghost use Rattle.fields.specs.Layouts.{record_of};
 ghost use Rattle.records.specs.RangeRecords.{range_layout, range_map, range_bytes};
 ghost use Rattle.records.specs.RangeUndoing.{range_undoing};
-ghost use Rattle.fields.specs.Reading.{outcome_of, rest_of, held_in};
+ghost use Rattle.fields.specs.Reading.{seen, outcome_of, held_in};
 ghost use Rattle.fields.specs.Sizes.{TookBytes};
 ghost use Rattle.records.specs.Sizes.{range_size};
 
 use crate::recorded::{Recorded, Written};
-use buffers::put_byte;
-use fields::{
-    Layout, RecordFault, given_bit, given_u8, given_u32, put_given_u8, put_given_u32, read_record,
-};
+use buffers::Output;
+use fields::{Layout, RecordFault, given, given_bit, put_given, read_record};
 use supplied::{MakeError, PrefixRange, Route};
 
 // The numbers so far: a field not yet read stands at its absent value.
@@ -49,11 +47,11 @@ impl Layout for RangeNumbers {
     fn take_field(self, place: u32, bytes: &[u8]) -> Result<(RangeNumbers, &[u8]), RecordFault> {
         match place {
             0 => {
-                let (address, rest) = given_u32(bytes, self.address)?;
+                let (address, rest) = given(bytes, self.address)?;
                 Ok((RangeNumbers { address, ..self }, rest))
             }
             1 => {
-                let (length, rest) = given_u8(bytes, self.length)?;
+                let (length, rest) = given(bytes, self.length)?;
                 Ok((
                     RangeNumbers {
                         length,
@@ -65,7 +63,7 @@ impl Layout for RangeNumbers {
                 ))
             }
             2 => {
-                let (low, rest) = given_u8(bytes, self.low)?;
+                let (low, rest) = given(bytes, self.low)?;
                 Ok((
                     RangeNumbers {
                         low,
@@ -76,7 +74,7 @@ impl Layout for RangeNumbers {
                 ))
             }
             _ => {
-                let (high, rest) = given_u8(bytes, self.high)?;
+                let (high, rest) = given(bytes, self.high)?;
                 Ok((RangeNumbers { high, ..self }, rest))
             }
         }
@@ -91,22 +89,20 @@ impl Layout for RangeNumbers {
 fn map_of(range: PrefixRange) -> u8
     ensures { result ≡ range_map range }
 {
-    let length = u32::from(range.length());
-    let low = u32::from(range.low());
     given_bit(0, range.address())
-        + 2 * given_bit(0, length)
-        + 4 * given_bit(length, low)
-        + 8 * given_bit(low, u32::from(range.high()))
+        + 2 * given_bit(0, range.length())
+        + 4 * given_bit(range.length(), range.low())
+        + 8 * given_bit(range.low(), range.high())
 }
 
 impl Recorded for PrefixRange {
     ghost reads = { record_of range_layout };
 
-    fn read(bytes: &[u8]) -> (Result<PrefixRange, RecordFault>, &[u8])
-        ensures outcome { result.0 ≡ outcome_of (record_of range_layout bytes.now) }
-        ensures rest { result.1.now ≡ rest_of bytes.now (record_of range_layout bytes.now) }
-        ensures meaning { (point : Route) → held_in prefix_holds result.0 point ≡ held_in prefix_holds (outcome_of (record_of range_layout bytes.now)) point }
-        ensures count { TookBytes range_size bytes.now result.0 result.1.now }
+    #[tactic(auto, using(crate::proofs::KindSizes::range_took))]
+    fn read(bytes: &[u8]) -> Result<(PrefixRange, &[u8]), RecordFault>
+        ensures answer { seen result ≡ record_of range_layout bytes.now }
+        ensures meaning { (point : Route) → held_in prefix_holds (outcome_of (seen result)) point ≡ held_in prefix_holds (outcome_of (record_of range_layout bytes.now)) point }
+        ensures count { TookBytes range_size bytes.now (seen result) }
     {
         read_record::<RangeNumbers>(bytes)
     }
@@ -119,13 +115,11 @@ impl Written for PrefixRange {
 
     ghost undoing = { range_undoing };
 
-    fn write(self, out: &mut [u8], at: usize) -> usize {
-        let length = self.length();
-        let low = self.low();
-        let at = put_byte(out, at, map_of(self));
-        let at = put_given_u32(out, at, 0, self.address());
-        let at = put_given_u8(out, at, 0, length);
-        let at = put_given_u8(out, at, length, low);
-        put_given_u8(out, at, low, self.high())
+    fn write(self, out: &mut Output) {
+        out.put_byte(map_of(self));
+        put_given(self.address(), 0, out);
+        put_given(self.length(), 0, out);
+        put_given(self.low(), self.length(), out);
+        put_given(self.high(), self.low(), out);
     }
 }

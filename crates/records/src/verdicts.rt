@@ -1,19 +1,19 @@
 // The record of a verdict: a map with the accept bit alone.
 ghost use Rattle.std.specs.Prelude.{◌≡◌};
 ghost use Rattle.fields.specs.Layouts.{record_of};
-ghost use Rattle.fields.specs.Reading.{outcome_of, rest_of};
+ghost use Rattle.fields.specs.Reading.{seen};
 ghost use Rattle.fields.specs.Sizes.{TookBytes};
 ghost use Rattle.records.specs.Sizes.{action_size};
 ghost use Rattle.records.specs.VerdictRecords.{verdict_layout, verdict_bytes, verdict_undoing};
 
 use crate::recorded::{RecordedAction, WrittenAction};
-use buffers::put_byte;
+use buffers::Output;
 use fields::{Layout, RecordFault, read_record};
 use supplied::{MakeError, Verdict};
 
 // A verdict has no numbers.
 #[derive(Clone, Copy)]
-pub struct VerdictNumbers {}
+pub struct VerdictNumbers;
 
 impl Layout for VerdictNumbers {
     type Made = Verdict;
@@ -21,7 +21,7 @@ impl Layout for VerdictNumbers {
     ghost layout = { verdict_layout };
 
     fn absent() -> VerdictNumbers {
-        VerdictNumbers {}
+        VerdictNumbers
     }
 
     fn is_defined(map: u8) -> bool {
@@ -48,10 +48,10 @@ impl Layout for VerdictNumbers {
 impl RecordedAction for Verdict {
     ghost reads = { record_of verdict_layout };
 
-    fn read(bytes: &[u8]) -> (Result<Verdict, RecordFault>, &[u8])
-        ensures outcome { result.0 ≡ outcome_of (record_of verdict_layout bytes.now) }
-        ensures rest { result.1.now ≡ rest_of bytes.now (record_of verdict_layout bytes.now) }
-        ensures count { TookBytes action_size bytes.now result.0 result.1.now }
+    #[tactic(auto, using(crate::proofs::KindSizes::verdict_took))]
+    fn read(bytes: &[u8]) -> Result<(Verdict, &[u8]), RecordFault>
+        ensures answer { seen result ≡ record_of verdict_layout bytes.now }
+        ensures count { TookBytes action_size bytes.now (seen result) }
     {
         read_record::<VerdictNumbers>(bytes)
     }
@@ -64,10 +64,10 @@ impl WrittenAction for Verdict {
 
     ghost undoing = { verdict_undoing };
 
-    fn write(self, out: &mut [u8], at: usize) -> usize {
+    fn write(self, out: &mut Output) {
         match self {
-            Verdict::Reject => put_byte(out, at, 0),
-            Verdict::Accept => put_byte(out, at, 1),
+            Verdict::Reject => out.put_byte(0),
+            Verdict::Accept => out.put_byte(1),
         }
     }
 }

@@ -4,26 +4,13 @@ use Rattle.compare.specs.Cells.{cornered}
 use Rattle.compare.proofs.Reached.{cornered_by_first}
 use Rattle.compare.proofs.cells.near_corner.Goals as goal
 
-pub loop-axis-init : goal.loop-axis-init
-loop-axis-init g c =
-    let m = g.R.Family in
-    let all : m.axes - 0 ≡ m.axes = omega arith in
-    ap (λ n. cornered m.shifted c.args.region n 1 c.first_point-point.result) all ∙ ap (cornered m.shifted c.args.region m.axes 1) c.first_point-point.ensures
-
 pub loop-axis-preserved : goal.loop-axis-preserved
 loop-axis-preserved g c =
     let m = g.R.Family in
     let i = c.loop-axis.axis in
-    let some : 0 < m.axes - i = omega (arith, c.loop-axis-test.true, c.axis_count-axis-end.ensures) in
-    let less : m.axes - i - 1 ≡ m.axes - (i + 1) = omega arith in
-    ap (cornered m.shifted c.args.region (m.axes - (i + 1)) (i + 1 + 1)) c.shift-point.ensures
-    ∙ ap (λ n. cornered m.shifted c.args.region n (i + 1 + 1) (m.shifted c.loop-axis.point (i + 1) Near c.args.region)) (sym less)
-    ∙ sym (cornered_by_first m.shifted c.args.region (m.axes - i) (i + 1) c.loop-axis.point some)
+    let some : 0 < m.axes + 1 - i = omega (arith, c.loop-axis-test.true, c.axis_count-axis-end.ensures) in
+    let less : m.axes + 1 - i - 1 ≡ m.axes + 1 - (i + 1) = omega arith in
+    ap (cornered m.shifted c.args.region (m.axes + 1 - (i + 1)) (i + 1)) c.shift-point.ensures
+    ∙ ap (λ n. cornered m.shifted c.args.region n (i + 1) (m.shifted c.loop-axis.point i Near c.args.region)) (sym less)
+    ∙ sym (cornered_by_first m.shifted c.args.region (m.axes + 1 - i) i c.loop-axis.point some)
     ∙ c.loop-axis.invariant
-
-pub returns : goal.returns
-returns g c =
-    let m = g.R.Family in
-    let i = c.loop-axis.axis in
-    let none : 0 ≡ m.axes - i = omega (arith, c.loop-axis-test.false, c.axis_count-axis-end.ensures) in
-    ap (λ n. cornered m.shifted c.args.region n (i + 1) c.loop-axis.point) none ∙ c.loop-axis.invariant

@@ -6,4 +6,4 @@ use Rattle.compare.proofs.cells.near_corner.Given as goal
 abbrev pub invariant-loop-axis : goal.invariant-loop-axis
 invariant-loop-axis g l =
     let m = g.R.Family in
-    cornered m.shifted l.region (m.axes - l.axis) (l.axis + 1) l.point ≡ cornered m.shifted l.region m.axes 1 m.first
+    cornered m.shifted l.region (m.axes + 1 - l.axis) l.axis l.point ≡ cornered m.shifted l.region m.axes 1 m.first

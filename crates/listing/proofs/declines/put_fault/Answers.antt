@@ -1,5 +1,5 @@
-use Rattle.buffers.proofs.Placing.{◌then◌}
+use Rattle.buffers.proofs.Putting.{◌then◌}
 use Rattle.listing.proofs.declines.put_fault.Goals as goal
 
 pub returns : goal.returns
-returns c = c.put_octet-at.ensures then c.put_byte-at.ensures then c.put_number-at.ensures then c.put_byte.ensures
+returns c = c.put_octet.ensures then c.put_byte.ensures then c.put_number.ensures then c.put_byte-2.ensures

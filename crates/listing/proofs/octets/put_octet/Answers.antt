@@ -1,5 +1,5 @@
 use Rattle.std.proofs.Common.{ℕ, ◌+◌, ◌-◌, ◌*◌, take, drop, ap, ◌∙◌, arith}
-use Rattle.buffers.proofs.Placing.{placed_same}
+use Rattle.buffers.proofs.Putting.{same_text}
 use Rattle.listing.proofs.Spelling.{printed_part}
 use Rattle.listing.proofs.octets.put_octet.Goals as goal
 
@@ -7,6 +7,6 @@ pub returns : goal.returns
 returns c =
     let n : ℕ = c.args.octet in
     let z : ℕ = c.leading_zeros.result in
-    placed_same
+    same_text
     (ap (λ t. take (3 * n + 3 - (3 * n + z)) (drop (3 * n + z) t)) c.spelled_octets.ensures ∙ printed_part n z (omega arith) c.leading_zeros.ensures)
-    c.put_text.ensures
+    c.put_bytes.ensures

@@ -1,9 +1,9 @@
-use Rattle.buffers.proofs.Placing.{placed_same, ◌then◌}
+use Rattle.buffers.proofs.Putting.{same_text, ◌then◌}
 use Rattle.listing.proofs.regions.put_address.Goals as goal
 
 pub returns : goal.returns
 returns c =
     let p =
-    c.put_octet-at.ensures then c.put_byte-at.ensures then c.put_octet-at-2.ensures then c.put_byte-at-2.ensures
-    then c.put_octet-at-3.ensures then c.put_byte-at-3.ensures then c.put_octet.ensures in
-    placed_same (simp c.to_be_bytes.ensures) p
+    c.put_octet.ensures then c.put_byte.ensures then c.put_octet-2.ensures then c.put_byte-2.ensures
+    then c.put_octet-3.ensures then c.put_byte-3.ensures then c.put_octet-4.ensures in
+    same_text (simp c.to_be_bytes.ensures) p

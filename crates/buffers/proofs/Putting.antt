@@ -1,0 +1,23 @@
+-- Texts put into an output, one behind the other.
+use Rattle.std.proofs.Common.{◌≡◌, ℕ, ◌^◌, ◌<◌, List, [], ◌++◌, length, ◌∙◌, refl, subst}
+use Rattle.buffers.specs.Buffers.{Placed}
+use Rattle.buffers.specs.Outputs.{Puts}
+use Rattle.buffers.specs.declared.outputs.Output.{Output}
+use Rattle.buffers.proofs.Placing as placing
+use Rattle.buffers.proofs.Placing.{placed_nothing, placed_byte}
+
+-- two texts put one behind the other
+infixl 60 ◌then◌
+pub ◌then◌ : {a b c : Output} {s t : List ℕ} → Puts a s b → Puts b t c → Puts a (s ++ t) c
+◌then◌ p q = record { placed = placing.◌then◌ p.placed q.placed; lender = q.lender ∙ p.lender }
+
+-- equal texts
+pub same_text : {a b : Output} {s t : List ℕ} → s ≡ t → Puts a s b → Puts a t b
+same_text {a} {b} e p = subst (λ x. Puts a x b) e p
+
+pub nothing : (a : Output) → length a.bytes.now < 2 ^ 64 → a.place < 2 ^ 64 → Puts a [] a
+nothing a h k = record { placed = placed_nothing a.bytes.now a.place h k; lender = refl }
+
+-- a text put into a new output over a buffer
+pub whole : {o o' s : List ℕ} {n : ℕ} (first last : Output) → first.place ≡ 0 → first.bytes.now ≡ o → Puts first s last → n ≡ last.place → o' ≡ last.bytes.now → Placed o 0 s n o'
+whole {o} {o'} {s} {n} first last a b p e f = rw (f, e, ← a, ← b) p.placed

@@ -1,0 +1,7 @@
+use Rattle.std.proofs.Common.{rules}
+use Rattle.buffers.proofs.Putting.{whole}
+use Rattle.buffers.proofs.texts.put_whole.Goals as goal
+
+pub returns : goal.returns
+returns g c =
+    whole _ _ c.new-output.ensures.place c.new-output.ensures.memory c.put.ensures c.len.ensures (search rules)

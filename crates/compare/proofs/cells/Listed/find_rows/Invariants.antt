@@ -1,0 +1,15 @@
+use Rattle.std.proofs.Common.{◌≡◌, ◌≤◌, [], take, drop}
+use Rattle.filter.specs.States.{sealed_view}
+use Rattle.compare.specs.Cells.{numbers}
+use Rattle.compare.specs.Rows.{ranked_from}
+use Rattle.compare.proofs.cells.Listed.find_rows.Given as goal
+
+-- the rows so far, with those of the regions that are left, are all rows
+abbrev pub invariant-loop-number : goal.invariant-loop-number
+invariant-loop-number g l =
+    let m = g.R.Family in
+    let left = sealed_view g.A.ActionKind.reject l.left in
+    let right = sealed_view g.A.ActionKind.reject l.right in
+    let listed = l.self.regions.now in
+    let more = ranked_from m.whole m.first m.axes m.holds m.inside m.shifted g.A.ActionKind.alike listed left.clauses left.default right.clauses right.default in
+    (l.count ≤ l.number) × (more (take l.count l.found) (numbers l.number (drop l.number listed)) ≡ more [] (numbers 0 listed))

@@ -1,0 +1,10 @@
+// The family codes that files begin with.
+
+// Prefix ranges, with route actions.
+pub(crate) const PREFIX_RANGES: u8 = 1;
+
+// Prefix ranges with an origin AS, with route actions.
+pub(crate) const ROUTES_WITH_ORIGIN: u8 = 2;
+
+// Packets, with verdicts.
+pub(crate) const PACKETS: u8 = 3;
