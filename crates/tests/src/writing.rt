@@ -1,5 +1,6 @@
 // Sealed filters written as files: which bytes, into which buffers, and that loading them again gives the same filter.
 use crate::families::Filed;
+use buffers::Output;
 use family::{ActionKind, Clause, Family};
 use filter::{Draft, Sealed};
 use filterfile::{WriteError, write_file};
@@ -152,7 +153,9 @@ fn ends_at_each_other_s_absent_value_come_back(rt: HostRuntime) -> Result<(), Fa
 // The region is written as this record.
 fn is_record(rt: &impl Abort, region: impl Written, record: &[u8]) {
     let mut out = [0xee; 20];
-    let n = region.write(&mut out, 0);
+    let mut output = Output::new(&mut out);
+    region.write(&mut output);
+    let n = output.len();
     assert!(rt; n < 20);
     assert!(rt; &out[..n] == record);
     assert!(rt; out[n] == 0xee);
