@@ -1,6 +1,8 @@
 -- The prefix ranges and routes of the code are those over addresses of 32 bits.
-use Rattle.std.specs.Prelude.{refl}
+use Rattle.std.specs.Prelude.{◌≡◌, refl}
+use Rattle.std.proofs.Common.{ap}
 use Rattle.supplied.specs.Carried.{Same}
+use Rattle.supplied.specs.Ranges as ranges
 use Rattle.supplied.specs.Ranges.{Range, Point}
 use Rattle.supplied.specs.declared.ranges.PrefixRange.{PrefixRange}
 use Rattle.supplied.specs.declared.routes.Route.{Route}
@@ -52,3 +54,11 @@ route_values = record {
   there = λ q. refl;
   here = λ p. refl;
 }
+
+-- values with the same numbers are the same
+pub same_range : (p q : PrefixRange) → p.address ≡ q.address → p.length ≡ q.length → p.low ≡ q.low → p.high ≡ q.high → p ≡ q
+same_range p q a l lo hi =
+    ap range_values.back (ranges.same_range (range_values.to p) (range_values.to q) a l lo hi)
+
+pub same_route : (p q : Route) → p.address ≡ q.address → p.length ≡ q.length → p ≡ q
+same_route p q a l = ap route_values.back (ranges.same_point (route_values.to p) (route_values.to q) a l)

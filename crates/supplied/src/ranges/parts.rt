@@ -1,4 +1,4 @@
-// The addresses under the prefix of a range, and the part of a range that another holds.
+// The last address of a prefix range, and the part of it that another holds.
 ghost use Rattle.std.specs.Prelude.{◌≡◌, ◌+◌, ◌-◌, ◌^◌, ◌≤◌};
 ghost use Rattle.supplied.specs.PrefixRanges.{prefix_narrowed};
 
@@ -6,6 +6,7 @@ use super::PrefixRange;
 use crate::prefixes::same_prefix;
 
 impl PrefixRange {
+    // The last address under the prefix.
     pub(crate) fn last_address(self) -> u32
         ensures { result + 1 ≡ self.address + 2 ^ (32 - self.length) }
     {
