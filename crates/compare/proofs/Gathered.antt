@@ -5,7 +5,7 @@ use Rattle.compare.specs.declared.regions.Growing.{Growing}
 use Rattle.compare.specs.Growing.{so_far, Puts}
 use Rattle.compare.specs.Regions.{put, put_clauses, grown, region_list}
 use Rattle.compare.specs.Written.{Written}
-use Rattle.compare.proofs.Extended.{Extends, extends_on, put_clauses_extends, grown_extends}
+use Rattle.compare.proofs.Extended.{Extends, extends_itself, extends_on, put_clauses_extends, grown_extends}
 use Rattle.compare.proofs.Fronts.{written-length}
 use Rattle.compare.proofs.Puts.{counted_in, puts_on, puts_over, puts_done}
 
@@ -64,6 +64,10 @@ module _ {R A : Type 0} (inside : R → R → Bool) (meet : R → R → Option R
               let stands = subst (λ o. Written old with_both (counted_in o three) three.places.now) fine-right both_stand in
               subst (λ n. Written old (grown inside meet n 0 with_both) (counted_in told-meets four) four.places.now) (written-length old with_both three.count three.places.now stands)
               (puts_on old with_both three four told-meets (grown inside meet (length three.places.now) 0) (grown_extends inside meet (length three.places.now) 0) told-right fine-right both_stand put-all)
+
+          -- nor for the meets
+          pub over_meets : {memory : List R} {answer : Option ℕ} → told-meets ≡ None → answer ≡ None → memory ≡ four.places.now → Written old with_meets answer memory
+          over_meets e f m = puts_over old with_meets four told-meets all_stand (extends_itself with_meets) e f m
 
           pub gathered : {memory : List R} → told-meets ≡ Some tt → memory ≡ four.places.now → Written old with_meets (Some four.count) memory
           gathered e m = puts_done old with_meets four told-meets all_stand e m

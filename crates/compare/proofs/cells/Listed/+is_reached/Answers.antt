@@ -1,13 +1,7 @@
-use Rattle.std.proofs.Common.{◌-◌, sym, refl, ◌∙◌, arith}
+use Rattle.std.proofs.Common.{◌-◌, sym, ◌∙◌, arith}
 use Rattle.compare.specs.Cells.{region_at, in_cell}
-use Rattle.compare.proofs.Reached.{edge_leads, edge_left, region_left, number_leads, none_leads}
+use Rattle.compare.proofs.Reached.{edge_leads, number_leads, none_leads}
 use Rattle.compare.proofs.cells.Listed.+is_reached.Goals as goal
-
-pub loop-number-init : goal.loop-number-init
-loop-number-init g t c = refl
-
-pub loop-edge-init : goal.loop-edge-init
-loop-edge-init g t c = refl
 
 pub returns-then-is_reached-2 : goal.returns-then-is_reached-2
 returns-then-is_reached-2 g t c =
@@ -17,20 +11,6 @@ returns-then-is_reached-2 g t c =
     let test = in_cell m.holds at cell in
     let here = edge_leads m.shifted at test cell (c.args.left - 1) c.args.axis c.args.point _ c.loop-edge.edge-index _ c.shift.result c.loop-edge-test.true c.region-region.ensures c.shift.ensures (sym c.is_reached-in-loop-edge.ensures ∙ c.if-is_reached-2.true) in
     number_leads m.shifted at test cell c.args.left c.args.axis c.args.point _ (omega (arith, c.if-left-eq0.false)) c.loop-number-test.true here
-
-pub loop-edge-preserved : goal.loop-edge-preserved
-loop-edge-preserved g t c =
-    let m = g.R.Family in
-    let at = region_at m.whole c.args.self.now.regions.now in
-    let cell = c.args.cell.now in
-    edge_left m.shifted at (in_cell m.holds at cell) cell (c.args.left - 1) c.args.axis c.args.point c.loop-edge.edge-index _ c.shift.result c.loop-edge-test.true c.shift.ensures (sym c.is_reached-in-loop-edge.ensures ∙ c.if-is_reached-2.false) c.loop-edge.invariant
-
-pub loop-number-preserved : goal.loop-number-preserved
-loop-number-preserved g t c =
-    let m = g.R.Family in
-    let at = region_at m.whole c.args.self.now.regions.now in
-    let cell = c.args.cell.now in
-    region_left m.shifted at (in_cell m.holds at cell) cell (c.args.left - 1) c.args.axis c.args.point c.loop-number.number-index c.loop-edge.edge-index _ c.loop-number-test.true c.loop-edge-test.false c.region-region.ensures c.loop-edge.invariant c.loop-number.invariant
 
 pub returns : goal.returns
 returns g t c =

@@ -1,16 +1,13 @@
-use Rattle.std.proofs.Common.{◌≡◌, ◌+◌, [], ◌++◌, length, get_or, take, Some, fold, refl, ap, subst, arith, length-append}
-use Rattle.std.proofs.lemmas.List.{get_or_default, take_all}
+use Rattle.std.proofs.Common.{◌+◌, [], ◌++◌, length, get_or, take, Some, fold, ap, subst, arith, length-append}
+use Rattle.std.proofs.lemmas.List.{get_or_default}
 use Rattle.std.proofs.lemmas.List.Sums.{fold_more}
 use Rattle.compare.specs.Cells.{holes_of, region_at}
-use Rattle.compare.specs.Rows.{add_holes, holes_of_rows}
+use Rattle.compare.specs.Rows.{add_holes}
 use Rattle.compare.specs.Written.{Written}
 use Rattle.compare.proofs.Extended.{extends_length, folded_front, add_holes_extends}
 use Rattle.compare.proofs.Fronts.{written_step}
 use Rattle.compare.proofs.LaidOut.{no_row}
 use Rattle.compare.proofs.cells.Listed.write_holes.Goals as goal
-
-pub loop-row-init : goal.loop-row-init
-loop-row-init g c = (refl, omega arith, refl)
 
 pub copy_holes-at-requires : goal.copy_holes-at-requires
 copy_holes-at-requires g c =
@@ -29,11 +26,3 @@ loop-row-preserved g c =
     let add = add_holes m.inside m.whole xs in
     let put = subst (λ r. Written c.loop-row.holes (take c.loop-row.at c.loop-row.holes ++ holes_of m.inside m.whole xs r) (Some c.copy_holes-at.result) c.copy_holes-at.new.holes) c.region.ensures c.copy_holes-at.ensures in
     written_step add (add_holes_extends m.inside m.whole xs) c.args.holes.now [] c.args.rows.now c.loop-row.row-index _ c.loop-row.at c.loop-row.holes (Some c.copy_holes-at.result) c.copy_holes-at.new.holes c.loop-row.invariant c.loop-row-test.true (get_or_default c.args.rows.now c.loop-row.row-index no_row _ c.loop-row-test.true) put
-
-pub returns : goal.returns
-returns g c =
-    let m = g.R.Family in
-    let xs = c.args.self.now.regions.now in
-    let all : take c.loop-row.row-index c.args.rows.now ≡ c.args.rows.now = take_all _ _ c.loop-row-test.false in
-    let done = subst (λ l. Written c.args.holes.now (holes_of_rows m.inside m.whole xs l) (Some c.loop-row.at) c.loop-row.holes) all c.loop-row.invariant in
-    subst (λ n. Written c.args.holes.now (holes_of_rows m.inside m.whole xs c.args.rows.now) (Some n) c.loop-row.holes) done.0 done
