@@ -73,12 +73,11 @@ fn read_clauses<'a, R: Recorded, A: RecordedAction, F: FnMut(usize, Clause<R, A>
 fn read_default<A: RecordedAction>(total: usize, bytes: &[u8]) -> Result<A, Fault>
     ensures { result ≡ default_of A.RecordedAction.reads total bytes.now }
 {
-    let fault = match A::read(bytes) {
-        Ok((action, [])) => return Ok(action),
-        Ok((_, spare)) => RecordFault::at(FaultKind::SpareBytes, spare),
-        Err(fault) => fault,
-    };
-    Err(fault.in_part(Part::Default, total))
+    let read = A::read(bytes).and_then(|(action, spare)| match spare {
+        [] => Ok(action),
+        _ => Err(RecordFault::at(FaultKind::SpareBytes, spare)),
+    });
+    read.map_err(|fault| fault.in_part(Part::Default, total))
 }
 
 // Reads a file of the family of this code into the first places: answers the number of its clauses and its default.
@@ -98,6 +97,7 @@ pub fn read_file<R: Recorded, A: RecordedAction>(
     let rest = read_clauses::<R, A, _>(total, count, body, &mut |_, _| ())?;
     let default = read_default::<A>(total, rest)?;
     let mut fill = |number: usize, clause: Clause<R, A>| {
+        // By its index: of a place behind `get_mut` the proof knows nothing.
         if number < places.len() {
             places[number] = clause;
         }
