@@ -2,7 +2,7 @@
 use Rattle.std.proofs.Common.{◌≡◌, ℕ, suc, ◌<◌, Bool, true, false, cond, not, List, [], ◌∷◌, length, Some, Option, sym, refl, ap, ◌∙◌, inl, inr, arith}
 use mathlib.Core.List.Memᴰ
 use mathlib.Core.List.{Memᴰ}
-use Rattle.std.proofs.lemmas.Option.{slice_get-get_or}
+use Rattle.std.proofs.lemmas.Option.{slice_get-get_or, slice_get_within, get_or_from_slice_get}
 use Rattle.std.proofs.lemmas.Bool.{and_from, and_parts, both_ways, cases_Bool, not-true}
 use Rattle.family.specs.Families.{FamilyLaws}
 use Rattle.std.specs.List.{list_any}
@@ -16,7 +16,7 @@ use Rattle.compare.specs.Rows.{covers, place_of}
 use Rattle.compare.proofs.Closed.{Closed}
 use Rattle.compare.proofs.HoleAround.{hole_around, hole_within}
 use Rattle.compare.proofs.Insides.{same_test, inside_on, inside_both, meet-found, meet_left, meet_right, meet_has}
-use Rattle.compare.proofs.Members.{nth_within, nth_member, nth_reads, member_place, none_passes, any_not, numbers-within, within-numbers}
+use Rattle.compare.proofs.Members.{nth_member, member_place, none_passes, any_not, numbers-within, within-numbers}
 
 first-same : {X : Type 0} (f g : X → Bool) (xs : List X) → ((x : X) → Memᴰ x xs → f x ≡ g x) → first_where f xs ≡ first_where g xs
 first-same f g [] each = refl
@@ -38,7 +38,7 @@ module _ {R P : Type 0} {whole : R} {first : P} {axes : ℕ} {holds : R → P �
   pub number_of : (r : R) → Memᴰ r xs → (n : ℕ) × (n < length xs) × (at n ≡ r)
   number_of r m =
       let k = member_place r xs m in
-      (k.0, nth_within xs k.0 r k.1, nth_reads xs k.0 r whole k.1)
+      (k.0, slice_get_within xs k.0 r k.1, get_or_from_slice_get xs k.0 r whole k.1)
 
   -- of some numbered regions, a listed one holds the point and is inside each that does
   abbrev LeastOf : List ℕ → ℕ → P → Type 0

@@ -12,7 +12,8 @@ use Rattle.compare.specs.Regions.{put_meets, grown}
 use Rattle.compare.proofs.Extended.{Extends, put_meets_extends}
 use Rattle.compare.proofs.Growth.{grown-ends, grown-turn}
 use Rattle.compare.proofs.Insides.{meet-turned, meet_itself}
-use Rattle.compare.proofs.Members.{nth_within, nth_member, nth_below, nth_taken, all_member, member_place}
+use Rattle.std.proofs.lemmas.Option.{slice_get_within}
+use Rattle.compare.proofs.Members.{nth_member, nth_below, nth_taken, all_member, member_place}
 use Rattle.compare.proofs.Placed.{Sound, extends_member, put_meets-lists, put_meets_sound}
 
 module _ {R P : Type 0} {whole : R} {first : P} {axes : ℕ} {holds : R → P → Bool} {inside : R → R → Bool} {meet : R → R → Option R} {shifted : P → ℕ → Edge → R → P} (laws : FamilyLaws whole first axes holds inside meet shifted) where
@@ -40,7 +41,7 @@ module _ {R P : Type 0} {whole : R} {first : P} {axes : ℕ} {holds : R → P �
       -- what stands at a place of the list before the turn
       before : (k : ℕ) (x : R) → k ≤ a → slice_get ys k ≡ Some x → slice_get xs k ≡ Some x
       before k x h e =
-          let inner = nth_within xs a r is in
+          let inner = slice_get_within xs a r is in
           nth_below xs more.0 k x (omega arith) (subst (λ l. slice_get l k ≡ Some x) more.1 e)
 
       by : (i < a) ⊎ (a ≤ i) → Memᴰ m ys
@@ -62,8 +63,8 @@ module _ {R P : Type 0} {whole : R} {first : P} {axes : ℕ} {holds : R → P �
           let alike : Some r ≡ Some s = sym ei ∙ ap (slice_get xs) e ∙ ej in
           let same : r ≡ s = cc in
           subst (λ x. Memᴰ x xs) (sym (meet_itself laws r m (ap (meet r) same ∙ is))) mr
-      by i j ei ej (inr (inl lt)) = let inner = nth_within xs j s ej in done j i s r m lt (omega arith) ej ei (meet-turned laws r s m is)
-      by i j ei ej (inr (inr gt)) = let inner = nth_within xs i r ei in done i j r s m gt (omega arith) ei ej is
+      by i j ei ej (inr (inl lt)) = let inner = slice_get_within xs j s ej in done j i s r m lt (omega arith) ej ei (meet-turned laws r s m is)
+      by i j ei ej (inr (inr gt)) = let inner = slice_get_within xs i r ei in done i j r s m gt (omega arith) ei ej is
 
   -- what each turn keeps is kept to the end, where the list ends or no turn is left
   grown_keeps : (Q : ℕ → List R → Type 0) → ((a : ℕ) (xs : List R) (r : R) → slice_get xs a ≡ Some r → Q a xs → Q (suc a) (turned r a xs)) → (k a : ℕ) (xs : List R) → Q a xs → (b : ℕ) × Q b (grown inside meet k a xs) × ((length (grown inside meet k a xs) ≤ b) ⊎ (b ≡ k + a))

@@ -1,7 +1,7 @@
 -- Lists written one after the other at the front of lent places.
-use Rattle.std.proofs.Common.{◌≡◌, ℕ, ◌+◌, ◌-◌, ◌<◌, ◌≤◌, List, [], ◌∷◌, ◌++◌, length, get_or, take, drop, set, replicate, Some, None, fold, Option, sym, refl, ap, ◌∙◌, subst, append_assoc, append-nil, add-one, arith, length-append, length-drop, take-append-drop, length-take}
-use Rattle.std.proofs.lemmas.List.{take_at, drop_at, drop-drop, take-append-le, get_or_append_left, set_split, take_all, length-replicate, get_or-replicate}
-use borrow.Rule.Slice.PartMut.{put_mid, post_of}
+use Rattle.std.proofs.Common.{◌≡◌, ℕ, ◌+◌, ◌-◌, ◌<◌, ◌≤◌, List, [], ◌∷◌, ◌++◌, length, get_or, take, drop, set, Some, None, fold, Option, sym, refl, ap, ◌∙◌, subst, append_assoc, append-nil, add-one, arith, length-append, length-drop, take-append-drop, length-take}
+use Rattle.std.proofs.lemmas.List.{take_at, drop_at, drop-drop, take-append-le, get_or_append_left, set_split, take_all}
+use borrow.Rule.Slice.PartMut.{put_mid}
 use Rattle.std.proofs.lemmas.Slice.{put_mid-paste}
 use Rattle.compare.specs.Written.{Written}
 use Rattle.std.proofs.lemmas.List.Sums.{fold_more}
@@ -56,10 +56,6 @@ module _ {X : Type 0} where
   written_full old n x e =
       let all : take n old ≡ old = take_all n old (omega arith) in
       (omega (arith, length-append (take n old) (x ∷ []), length-take n old), sym (ap (λ l. take (length old) (l ++ (x ∷ []))) all ∙ take_at old (x ∷ []) (length old) refl))
-
-  -- the first n places as a lent part reads them
-  pub lent_front : (n : ℕ) (xs : List X) → take (n - 0) (drop 0 xs) ≡ take n xs
-  lent_front n xs = ap (λ k. take k xs) (omega arith)
 
   -- a step that only adds at the end, taken on what stands
   pub written_on : (f : List X → List X) → ((xs : List X) → Extends xs (f xs)) → (old xs : List X) (n : ℕ) (mid : List X) (r : Option ℕ) (new : List X) → Written old xs (Some n) mid → Written mid (f (take n mid)) r new → Written old (f xs) r new

@@ -1,5 +1,5 @@
 -- Elements of lists: by membership, by place, by a test, and of what a filter keeps.
-use Rattle.std.proofs.Common.{◌≡◌, ℕ, zero, suc, ◌+◌, ◌<◌, ◌≤◌, Bool, true, false, cond, ◌||◌, ◌⊎◌, List, [], ◌∷◌, ◌++◌, length, get_or, take, Some, None, filter, sym, refl, ap, ◌∙◌, inl, inr, arith}
+use Rattle.std.proofs.Common.{◌≡◌, ℕ, zero, suc, ◌+◌, ◌<◌, ◌≤◌, Bool, true, false, cond, ◌||◌, ◌⊎◌, List, [], ◌∷◌, ◌++◌, length, take, Some, None, filter, sym, refl, ap, ◌∙◌, inl, inr, arith}
 use mathlib.Core.List.Memᴰ
 use mathlib.Core.List.{Memᴰ}
 use Rattle.std.specs.List.{AllByRecursion, slice_get}
@@ -22,20 +22,10 @@ module _ {X : Type 0} where
   all_by_member Q (y ∷ ys) each = (each y (Memᴰ.head refl), all_by_member Q ys (λ x m. each x (Memᴰ.tail m)))
 
   -- places and members
-  pub nth_within : (xs : List X) (k : ℕ) (x : X) → slice_get xs k ≡ Some x → k < length xs
-  nth_within [] k x e = nothing e
-  nth_within (y ∷ ys) zero x e = omega arith
-  nth_within (y ∷ ys) (suc k) x e = let more = nth_within ys k x e in omega arith
-
   pub nth_member : (xs : List X) (k : ℕ) (x : X) → slice_get xs k ≡ Some x → Memᴰ x xs
   nth_member [] k x e = nothing e
   nth_member (y ∷ ys) zero x e = Memᴰ.head (cc)
   nth_member (y ∷ ys) (suc k) x e = Memᴰ.tail (nth_member ys k x e)
-
-  pub nth_reads : (xs : List X) (k : ℕ) (x d : X) → slice_get xs k ≡ Some x → get_or xs k d ≡ x
-  nth_reads [] k x d e = nothing e
-  nth_reads (y ∷ ys) zero x d e = cc
-  nth_reads (y ∷ ys) (suc k) x d e = nth_reads ys k x d e
 
   pub member_place : (x : X) (xs : List X) → Memᴰ x xs → (k : ℕ) × (slice_get xs k ≡ Some x)
   member_place x [] m = absurd (Memᴰ.not-nil m)

@@ -26,9 +26,6 @@ module _ {R P A : Type 0} (whole : R) (first : P) (axes : ℕ) (holds : R → P 
     pub reported_on : axes ≤ 4 → length (list_for whole first axes holds inside meet shifted alike left right places) ≤ used_places places → report_on whole first axes holds inside meet shifted alike left right (list_for whole first axes holds inside meet shifted alike left right places) row-places hole-places ≡ outcome whole first axes holds inside meet shifted alike left right places row-places hole-places
     reported_on h k = sym (cond-false (ltb 4 axes) _ _ (le-ltb 4 axes h) ∙ cond-false (ltb (used_places places) (length (list_for whole first axes holds inside meet shifted alike left right places))) _ _ (le-ltb _ _ k))
 
-  pub regions_kept : (old : List R) → 4 < axes → old ≡ regions_after whole first axes holds inside meet shifted alike left right old
-  regions_kept old h = sym (cond-true (ltb 4 axes) _ _ (lt-ltb 4 axes h))
-
   pub regions_listed_lem : (old : List R) → axes ≤ 4 → front_of (used_places (length old)) (list_for whole first axes holds inside meet shifted alike left right (length old)) old ≡ regions_after whole first axes holds inside meet shifted alike left right old
   regions_listed_lem old h = sym (cond-false (ltb 4 axes) _ _ (le-ltb 4 axes h))
 

@@ -1,5 +1,5 @@
 -- Points of a cell, and those that shifts reach.
-use Rattle.std.proofs.Common.{◌≡◌, ℕ, zero, suc, ◌+◌, ◌-◌, ◌<◌, ◌≤◌, Bool, true, false, not, ◌&&◌, ◌||◌, List, [], ◌∷◌, length, get_or, take, drop, sym, refl, ap, ◌∙◌, arith}
+use Rattle.std.proofs.Common.{◌≡◌, ℕ, zero, suc, ◌+◌, ◌-◌, ◌<◌, ◌≤◌, Bool, true, false, ◌||◌, List, [], ◌∷◌, length, get_or, take, drop, sym, refl, ap, ◌∙◌, arith}
 use Rattle.std.proofs.Math.Bool.{or-false}
 use Rattle.std.proofs.lemmas.List.{nil_from_length, drop_more, take_all}
 use Rattle.std.proofs.lemmas.List.Folds.{list_any_at, list_any_more}
@@ -7,11 +7,7 @@ use Rattle.std.proofs.lemmas.Bool.{or_left, or_right, or_from}
 use Rattle.std.specs.List.{list_any}
 use Rattle.family.specs.declared.edges.Edge.{Edge}
 use Rattle.family.specs.declared.edges.Edge.TheVariants.{Near, Far}
-use Rattle.compare.specs.Cells.{holding, in_cell, reaches, reaches_by, cornered, occupied}
-
--- a cell that is not empty opens with its region
-pub in_cell_at : {R P : Type 0} (holds : R → P → Bool) (at : ℕ → R) (cell : List ℕ) (p : P) → 0 < length cell → in_cell holds at cell p ≡ (holding holds at p (get_or cell 0 0) && not (list_any (holding holds at p) (drop 1 cell)))
-in_cell_at holds at cell p h = ap (λ l. in_cell holds at l p) (drop_more cell 0 0 h)
+use Rattle.compare.specs.Cells.{in_cell, reaches, reaches_by, cornered, occupied}
 
 module _ {R P : Type 0} (shifted : P → ℕ → Edge → R → P) (at : ℕ → R) (test : P → Bool) (ns : List ℕ) where
   -- the same when the first shift goes to the given edge of a region

@@ -1,7 +1,6 @@
 -- The report on a region list, by the rows that were found.
 use Rattle.std.proofs.Common.{◌≡◌, ℕ, ◌<◌, ◌≤◌, Bool, cond, ltb, List, length, Ok, Err, sum_by, Option, Result, sym, ap, ◌∙◌}
 use Rattle.std.proofs.lemmas.Bool.{cond-true, cond-false, lt-ltb, le-ltb}
-use Rattle.family.specs.declared.clauses.Clause.{Clause}
 use Rattle.family.specs.declared.edges.Edge.{Edge}
 use Rattle.filter.specs.Views.{View}
 use Rattle.compare.specs.declared.reports.Declined.{Declined}

@@ -2,6 +2,7 @@
 use Rattle.std.proofs.Common.{◌≡◌, ℕ, ◌+◌, ◌<◌, ◌≤◌, Bool, true, not, ◌&&◌, ◌↔◌, List, [], ◌∷◌, length, Some, Option, sym, refl, ap, ◌∙◌, subst, inl, inr, arith}
 use mathlib.Core.List.{Memᴰ}
 use Rattle.std.specs.List.{slice_get}
+use Rattle.std.proofs.lemmas.Option.{slice_get_within}
 use Rattle.std.proofs.lemmas.Bool.{cases_order, cases_Bool, both_ways}
 use Rattle.family.specs.Clauses.{action_at}
 use Rattle.family.specs.Families.{FamilyLaws}
@@ -22,7 +23,7 @@ use Rattle.compare.proofs.InOrder.{nth_in_order}
 use Rattle.compare.proofs.LaidHoles.{laid_from, laid_at, laid-within, laid_again, holes-read}
 use Rattle.compare.proofs.LaidOut.{started}
 use Rattle.compare.proofs.Meetings.{whole_listed, left_listed, right_listed, list-once, list-closed, list-listed}
-use Rattle.compare.proofs.Members.{all_member, nth_member, nth_within, member_place}
+use Rattle.compare.proofs.Members.{all_member, nth_member, member_place}
 use Rattle.compare.proofs.Occupied.{occupied_point, point_occupied}
 use Rattle.compare.proofs.RowOrder.{before-apart}
 
@@ -31,7 +32,7 @@ no_place [] none = refl
 no_place (row ∷ rows) none = absurd (none 0 row refl)
 
 empty_place : (rows : List Row) → length rows ≡ 0 → (k : ℕ) (row : Row) → slice_get rows k ≡ Some row → ⊥
-empty_place rows e k row is = let h = nth_within rows k row is in omega arith
+empty_place rows e k row is = let h = slice_get_within rows k row is in omega arith
 
 module _ {R P : Type 0} {whole : R} {first : P} {axes : ℕ} {holds : R → P → Bool} {inside : R → R → Bool} {meet : R → R → Option R} {shifted : P → ℕ → Edge → R → P} (laws : FamilyLaws whole first axes holds inside meet shifted) (few : axes ≤ 4) {A : Type 0} (alike : A → A → Bool) (left : List (Clause R A)) (left-default : A) (right : List (Clause R A)) (right-default : A) (places : ℕ) (fits : length (region_list inside meet places whole left right) ≤ places) where
   abbrev xs : List R

@@ -1,5 +1,5 @@
 -- A region list that grows at the front of lent places.
-use Rattle.std.specs.Prelude.{◌≡◌, ℕ, List, take, Option}
+use Rattle.std.specs.Prelude.{◌≡◌, List, take, Option}
 use Rattle.std.specs.Option.{option_map}
 use Rattle.compare.specs.declared.regions.Growing.{Growing}
 use Rattle.compare.specs.Written.{Written}

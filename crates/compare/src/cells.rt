@@ -9,7 +9,7 @@ use std::array;
 // The most regions that a list has.
 pub(crate) const MOST_REGIONS: usize = 1024;
 
-// The regions of a comparison, which go by their numbers.
+// The regions of a comparison, in memory lent by the caller; they go by their numbers.
 #[derive(Drop)]
 pub(crate) struct Listed<'a, R> {
     regions: &'a [R],
@@ -57,7 +57,10 @@ impl<'a, R: Family> Listed<'a, R> {
     pub(crate) fn region(&self, number: usize) -> R
         ensures { result ≡ region_at R.whole self.now.regions.now number }
     {
-        self.regions.get(number).copied().unwrap_or(R::whole_region())
+        self.regions
+            .get(number)
+            .copied()
+            .unwrap_or(R::whole_region())
     }
 
     // Whether a region is strictly inside one of some numbered regions.
@@ -83,13 +86,19 @@ impl<'a, R: Family> Listed<'a, R> {
             &mut nested,
         );
         let nested = &nested[..count];
-        keep(nested, |hole| !self.is_inside_any(self.region(hole), nested), out)
+        keep(
+            nested,
+            |hole| !self.is_inside_any(self.region(hole), nested),
+            out,
+        )
     }
 
     fn is_held(&self, point: R::Point, holes: &[usize]) -> bool
         ensures { result ≡ list_any (holding R.holds (region_at R.whole self.now.regions.now) point) holes.now }
     {
-        holes.iter().any(|hole| self.region(*hole).holds_point(point))
+        holes
+            .iter()
+            .any(|hole| self.region(*hole).holds_point(point))
     }
 
     // Whether a point lies in the cell that is given by its region's number and then its holes'.
@@ -113,6 +122,7 @@ impl<'a, R: Family> Listed<'a, R> {
         if self.is_reached(cell, left - 1, axis + 1, point) {
             return true;
         }
+        // A loop: a function that calls itself through a closure gets no proof.
         for number in cell {
             let region = self.region(*number);
             for edge in [Edge::Near, Edge::Far] {

@@ -5,7 +5,7 @@ ghost use Rattle.compare.specs.Written.{Written};
 
 use family::{ActionKind, Clause, Family};
 
-// A region list that grows at the front of lent places.
+// A region list that grows at the front of places lent by the caller.
 #[derive(Drop)]
 struct Growing<'a, R> {
     places: &'a mut [R],
@@ -40,6 +40,7 @@ impl<'a, R: Family> Growing<'a, R> {
     fn put(&mut self, region: R) -> Option<()>
         ensures { Puts self.old (put R.inside (so_far self.old) region) result self.new }
     {
+        // A name of its own, so that what the places hold is known after they are read.
         let places = &mut *self.places;
         if is_standing(&places[..self.count], region) {
             return Some(());
@@ -70,7 +71,7 @@ impl<'a, R: Family> Growing<'a, R> {
         }
     }
 
-    // The meets of the region at a place with each before it, in turn.
+    // Puts the meets of the region with each of the first `before`, in turn.
     fn put_meets(&mut self, region: R, before: usize) -> Option<()>
         requires { before ≤ self.old.count }
         ensures { Puts self.old (put_meets R.inside R.meet region (take before self.old.places.now) (so_far self.old)) result self.new }
@@ -82,10 +83,11 @@ impl<'a, R: Family> Growing<'a, R> {
         Some(())
     }
 
-    // Goes on to the growing end.
+    // Puts the meets of each region with all before it, to the growing end.
     fn grow(&mut self) -> Option<()>
         ensures { Puts self.old (grown R.inside R.meet (length self.old.places.now) 0 (so_far self.old)) result self.new }
     {
+        // The end moves while the list is gone through.
         let mut place = 0;
         while place < self.count {
             let region = self.places[place];

@@ -45,6 +45,7 @@ fn put_row(found: &mut [Row], count: usize, row: Option<Row>) -> usize
         return count;
     };
     let place = rank(&found[..count], row);
+    // There is a place: `count` is below the length.
     let _ = insert_at(found, count, place, row);
     count + 1
 }
@@ -71,7 +72,12 @@ pub(crate) fn lay_rows(rows: &mut [Row])
 
 impl<'a, R: Family> Listed<'a, R> {
     // The row of a region, where its cell holds a point and the two filters treat it unlike.
-    fn row_of<A: ActionKind>(&self, number: usize, left: &Sealed<R, A>, right: &Sealed<R, A>) -> Option<Row>
+    fn row_of<A: ActionKind>(
+        &self,
+        number: usize,
+        left: &Sealed<R, A>,
+        right: &Sealed<R, A>,
+    ) -> Option<Row>
         ensures { result ≡ row_at R.whole R.first R.axes R.holds R.inside R.shifted A.alike self.now.regions.now (sealed_view A.reject left.now).clauses (sealed_view A.reject left.now).default (sealed_view A.reject right.now).clauses (sealed_view A.reject right.now).default number }
     {
         let region = self.region(number);
@@ -95,7 +101,12 @@ impl<'a, R: Family> Listed<'a, R> {
     }
 
     // The rows of all regions, in order, at the front of the places.
-    pub(crate) fn find_rows<A: ActionKind>(&self, left: &Sealed<R, A>, right: &Sealed<R, A>, found: &mut [Row]) -> usize
+    pub(crate) fn find_rows<A: ActionKind>(
+        &self,
+        left: &Sealed<R, A>,
+        right: &Sealed<R, A>,
+        found: &mut [Row],
+    ) -> usize
         requires { length self.now.regions.now ≤ length found.old }
         ensures within { result ≤ length self.now.regions.now }
         ensures rows { take result found.new ≡ rows_found R.whole R.first R.axes R.holds R.inside R.shifted A.alike self.now.regions.now (sealed_view A.reject left.now).clauses (sealed_view A.reject left.now).default (sealed_view A.reject right.now).clauses (sealed_view A.reject right.now).default }

@@ -1,9 +1,8 @@
-use Rattle.std.proofs.Common.{◌≡◌, ◌≤◌, length, Some, None, Err, ap, ◌∙◌, rules, arith}
+use Rattle.std.proofs.Common.{◌≡◌, ◌≤◌, Some, ap, ◌∙◌, rules, arith}
 use Rattle.filter.specs.States.{sealed_view}
-use Rattle.compare.specs.Compared.{unless_declined, list_for, rows_in, holes_in}
+use Rattle.compare.specs.Compared.{unless_declined, rows_in, holes_in}
 use Rattle.compare.proofs.AnsweredRightly.{answered_rightly}
 use Rattle.compare.proofs.ListWritten.{declined_rightly, list-is, regions_written, outcome_told}
-use Rattle.compare.proofs.comparison.compare.Given as given
 use Rattle.compare.proofs.comparison.compare.Goals as goal
 
 pub returns-in_err-count-clause-right : goal.returns-in_err-count-clause-right

@@ -1,4 +1,4 @@
-use Rattle.std.proofs.Common.{◌≡◌, ◌≤◌, length, take, Ok, sum_by, sym, ap, ◌∙◌, arith, length-take}
+use Rattle.std.proofs.Common.{◌≡◌, length, take, Ok, sum_by, sym, ap, ◌∙◌, arith, length-take}
 use Rattle.filter.specs.States.{sealed_view}
 use Rattle.compare.specs.Rows.{holes_of_rows}
 use Rattle.compare.proofs.LaidOut.{hole_count}

@@ -1,4 +1,4 @@
-use Rattle.std.proofs.Common.{rules, ◌≡◌, ℕ, ◌+◌, ◌-◌, ◌^◌, ◌∙◌, min, fold}
+use Rattle.std.proofs.Common.{rules, ◌≡◌, ◌+◌, ◌-◌, ◌^◌, ◌∙◌, min, fold}
 use Rattle.std.proofs.iter.runs.Made.{chains}
 use Rattle.compare.proofs.LaidOut.{capped_total}
 use Rattle.compare.proofs.rows.count_holes.Goals as goal

@@ -1,4 +1,4 @@
-use Rattle.std.proofs.Common.{◌-◌, ◌<◌, sym, refl, ◌∙◌, arith}
+use Rattle.std.proofs.Common.{◌-◌, sym, refl, ◌∙◌, arith}
 use Rattle.compare.specs.Cells.{region_at, in_cell}
 use Rattle.compare.proofs.Reached.{edge_leads, edge_left, region_left, number_leads, none_leads}
 use Rattle.compare.proofs.cells.Listed.+is_reached.Goals as goal

@@ -1,4 +1,4 @@
-use Rattle.std.proofs.Common.{rules, ◌≡◌, ℕ, ◌+◌, ◌<◌, filter, length, get_or, take, ap, ◌∙◌, subst, arith}
+use Rattle.std.proofs.Common.{rules, ◌≡◌, filter, take, ap, ◌∙◌, subst, arith}
 use Rattle.compare.specs.Cells.{region_at, below, topmost, outermost}
 use Rattle.compare.proofs.Kept.{counted}
 use Rattle.compare.proofs.cells.Listed.write_holes_of.Goals as goal
