@@ -29,6 +29,7 @@ pub fn insert_at<T: Copy>(
 }
 
 // The same, where only the usable places are taken: one is kept for the default.
+// It lends the front of a parameter; of the front of a field's slice, lent in a method, a proof knows nothing afterwards.
 pub(crate) fn insert_usable<T: Copy>(
     places: &mut [T],
     count: usize,
@@ -73,6 +74,7 @@ pub(crate) fn replace_at<T: Copy>(
     if place >= count {
         return Err(EditError::NoSuchPlace);
     }
+    // After get_mut of a slice a proof knows the length and no element.
     places[place] = x;
     Ok(())
 }
