@@ -1,8 +1,6 @@
 -- Lists written one after the other at the front of lent places.
 use Rattle.std.proofs.Common.{◌≡◌, ℕ, ◌+◌, ◌-◌, ◌<◌, ◌≤◌, List, [], ◌∷◌, ◌++◌, length, get_or, take, drop, set, Some, None, fold, Option, sym, refl, ap, ◌∙◌, subst, append_assoc, append-nil, add-one, arith, length-append, length-drop, take-append-drop, length-take}
 use Rattle.std.proofs.lemmas.List.{take_at, drop_at, drop-drop, take-append-le, get_or_append_left, set_split, take_all}
-use borrow.Rule.Slice.PartMut.{put_mid}
-use Rattle.std.proofs.lemmas.Slice.{put_mid-paste}
 use Rattle.compare.specs.Written.{Written}
 use Rattle.std.proofs.lemmas.List.Sums.{fold_more}
 use Rattle.compare.proofs.Extended.{Extends, extends_length, folded_front}
@@ -13,10 +11,6 @@ module _ {X : Type 0} where
 
   pub written-length : (old xs : List X) (n : ℕ) (new : List X) → Written old xs (Some n) new → length new ≡ length old
   written-length old xs n new w = omega (arith, ap length w.2, length-append xs (drop n old), length-drop n old, w.0, w.1)
-
-  -- what stood before is untouched
-  pub written_start : (old : List X) (n : ℕ) → n ≤ length old → Written old (take n old) (Some n) old
-  written_start old n h = (omega (arith, length-take n old), h, sym (take-append-drop n old))
 
   past : (xs old : List X) (n m : ℕ) → length xs ≡ n → n ≤ m → drop m (xs ++ drop n old) ≡ drop m old
   past xs old n m e h =
@@ -52,11 +46,6 @@ module _ {X : Type 0} where
       let front = length-take n old in
       (omega (arith, length-append (take n old) (x ∷ [])), omega arith, set_split old n x h ∙ ap (λ k. take n old ++ (x ∷ drop k old)) (sym (add-one n)) ∙ sym (append_assoc (take n old) (x ∷ []) (drop (n + 1) old)))
 
-  pub written_full : (old : List X) (n : ℕ) (x : X) → n ≡ length old → Written old (take n old ++ (x ∷ [])) None old
-  written_full old n x e =
-      let all : take n old ≡ old = take_all n old (omega arith) in
-      (omega (arith, length-append (take n old) (x ∷ []), length-take n old), sym (ap (λ l. take (length old) (l ++ (x ∷ []))) all ∙ take_at old (x ∷ []) (length old) refl))
-
   -- a step that only adds at the end, taken on what stands
   pub written_on : (f : List X → List X) → ((xs : List X) → Extends xs (f xs)) → (old xs : List X) (n : ℕ) (mid : List X) (r : Option ℕ) (new : List X) → Written old xs (Some n) mid → Written mid (f (take n mid)) r new → Written old (f xs) r new
   written_on f adds old xs n mid r new w v =
@@ -77,10 +66,3 @@ module _ {X : Type 0} where
   -- the first element, and behind it a part that was lent and written
   pub written_behind : (x : X) (part : List X) (n : ℕ) → take (n + 1) (x ∷ (part ++ [])) ≡ x ∷ take n part
   written_behind x part n = ap (λ k. take k (x ∷ (part ++ []))) (add-one n) ∙ ap (λ l. x ∷ take n l) (append-nil part)
-
-  -- a list copied into a part that was lent, behind what stands before it
-  pub written_part : (old part xs : List X) (from n : ℕ) → from + n ≤ length old → part ≡ xs → n ≡ length xs → Written old (take from old ++ xs) (Some (from + n)) (put_mid from (from + n - from) old part)
-  written_part old part xs from n fits e long =
-      let size : n ≡ from + n - from = omega arith in
-      let front = length-take from old in
-      (omega (arith, length-append (take from old) xs), fits, put_mid-paste from (from + n - from) old part xs n e size long ∙ ap (λ l. (take from old ++ l) ++ drop (from + n) old) (take_all n xs (omega arith)))

@@ -1,6 +1,6 @@
 -- Rows written one after the other, each with the start of its holes.
-use Rattle.std.proofs.Common.{◌≡◌, ℕ, suc, ◌+◌, ◌-◌, ◌^◌, ◌<◌, ◌≤◌, min, fold, List, [], ◌∷◌, ◌++◌, length, get_or, take, drop, set, sum_by, sym, refl, ap, ◌∙◌, append_assoc, append-nil, add-zero, add_assoc, arith, length-take}
-use Rattle.std.proofs.lemmas.List.{take_more, take_all, drop_more, drop_all, get_or_at, set_at}
+use Rattle.std.proofs.Common.{◌≡◌, ℕ, suc, ◌+◌, ◌-◌, ◌^◌, ◌<◌, ◌≤◌, min, fold, List, [], ◌∷◌, ◌++◌, length, get_or, take, drop, set, sum_by, sym, refl, ap, ◌∙◌, append_assoc, add-zero, add_assoc, arith, length-take}
+use Rattle.std.proofs.lemmas.List.{take_more, drop_more, get_or_at, set_at}
 use Rattle.std.proofs.lemmas.List.Sums.{sum_by_more, sum_by-cons, sum_by-take-le}
 use Rattle.compare.specs.declared.rows.Row.{Row}
 use Rattle.compare.specs.Rows.{laid}
@@ -52,9 +52,6 @@ module _ (rows items : List Row) (i start : ℕ) (d : Row) (some : i < length ro
       ∙ set_at front (get_or rows i d) (drop (i + 1) rows) (started start row) i long
       ∙ sym (append_assoc front (started start row ∷ []) (drop (i + 1) rows))
       ∙ ap (λ l. l ++ drop (i + 1) rows) (ap (λ n. front ++ (started n row ∷ [])) (from ∙ zero_first (sum_by hole_count (take i rows))) ∙ sym (laid_push 0 (take i rows) row) ∙ ap (laid 0) (sym next))
-
-pub laid_whole : (rows : List Row) (i : ℕ) → length rows ≤ i → laid 0 (take i rows) ++ drop i rows ≡ laid 0 rows
-laid_whole rows i h = ap (λ l. laid 0 l ++ drop i rows) (take_all i rows h) ∙ ap (λ l. laid 0 rows ++ l) (drop_all i rows h) ∙ append-nil (laid 0 rows)
 
 -- the holes of rows counted one row after the other, up to a limit
 capped_from : (limit start : ℕ) (rows : List Row) → fold (λ total row. min (total + row.number) limit) (min start limit) rows ≡ min (start + sum_by hole_count rows) limit

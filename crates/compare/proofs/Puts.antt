@@ -1,24 +1,19 @@
 -- Regions put into a list that grows at the front of lent places.
-use Rattle.std.proofs.Common.{◌≡◌, ℕ, ◌+◌, ◌<◌, ◌≤◌, Bool, true, false, List, length, get_or, take, set, Some, None, fold, Option, sym, ◌∙◌, subst}
-use Rattle.std.proofs.lemmas.Bool.{cond-true, cond-false}
+use Rattle.std.proofs.Common.{◌≡◌, ℕ, ◌+◌, ◌<◌, Bool, false, List, length, get_or, take, set, Some, None, fold, Option, sym, ◌∙◌, subst}
+use Rattle.std.proofs.lemmas.Bool.{cond-false}
 use Rattle.std.specs.Option.{option_map}
 use Rattle.compare.specs.declared.regions.Growing.{Growing}
 use Rattle.compare.specs.Growing.{so_far, Puts}
 use Rattle.compare.specs.Regions.{stands, put}
 use Rattle.compare.specs.Written.{Written}
 use Rattle.compare.proofs.Extended.{Extends}
-use Rattle.compare.proofs.Fronts.{written_start, written_push, written_full, written_step, written_stop, written_on, written-short}
+use Rattle.compare.proofs.Fronts.{written_push, written_step, written_stop, written_on, written-short}
 
 -- one region put behind the first n places: it stands already, there is a place, or every place is taken
 module _ {R : Type 0} (inside : R → R → Bool) (old : List R) (n : ℕ) (r : R) where
-  pub put_standing : n ≤ length old → stands inside r (take n old) ≡ true → Written old (put inside (take n old) r) (Some n) old
-  put_standing h t = subst (λ l. Written old l (Some n) old) (sym (cond-true _ _ _ t)) (written_start old n h)
 
   pub put_behind : n < length old → stands inside r (take n old) ≡ false → Written old (put inside (take n old) r) (Some (n + 1)) (set old n r)
   put_behind h t = subst (λ l. Written old l (Some (n + 1)) (set old n r)) (sym (cond-false _ _ _ t)) (written_push old n r h)
-
-  pub put_nowhere : n ≡ length old → stands inside r (take n old) ≡ false → Written old (put inside (take n old) r) None old
-  put_nowhere h t = subst (λ l. Written old l None old) (sym (cond-false _ _ _ t)) (written_full old n r h)
 
 -- a fold of steps that only add at the end, over a list that grows: one step on, and a step that found no place
 module _ {R Y : Type 0} (f : List R → Y → List R) (adds : (xs : List R) (y : Y) → Extends xs (f xs y)) (ys : List Y) (before mid after : Growing R) (told : Option (Unit {0})) (i : ℕ) (y : Y) (some : i < length ys) (read : y ≡ get_or ys i y) where

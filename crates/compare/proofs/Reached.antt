@@ -2,7 +2,7 @@
 use Rattle.std.proofs.Common.{◌≡◌, ℕ, zero, suc, ◌+◌, ◌-◌, ◌<◌, ◌≤◌, Bool, true, false, ◌||◌, List, [], ◌∷◌, length, get_or, take, drop, sym, refl, ap, ◌∙◌, arith}
 use Rattle.std.proofs.Math.Bool.{or-false}
 use Rattle.std.proofs.lemmas.List.{nil_from_length, drop_more, take_all}
-use Rattle.std.proofs.lemmas.List.Folds.{list_any_at, list_any_more}
+use Rattle.std.proofs.lemmas.List.Folds.{list_any_at}
 use Rattle.std.proofs.lemmas.Bool.{or_left, or_right, or_from}
 use Rattle.std.specs.List.{list_any}
 use Rattle.family.specs.declared.edges.Edge.{Edge}
@@ -28,17 +28,6 @@ module _ {R P : Type 0} (shifted : P → ℕ → Edge → R → P) (at : ℕ →
     pub edge_leads : (k i : ℕ) (r : R) (q : P) → i < 2 → r ≡ at k → q ≡ shifted p axis (get_or (Near ∷ Far ∷ []) i Near) r → reaches shifted at test ns n (axis + 1) q ≡ true → by k ≡ true
     edge_leads k i r q h e f t =
         sym (either_edge k) ∙ list_any_at (along (at k)) (Near ∷ Far ∷ []) i Near h (ap (λ x. along x (get_or (Near ∷ Far ∷ []) i Near)) (sym e) ∙ ap (reaches shifted at test ns n (axis + 1)) (sym f) ∙ t)
-
-    -- one edge more that does not
-    pub edge_left : (i : ℕ) (r : R) (q : P) → i < 2 → q ≡ shifted p axis (get_or (Near ∷ Far ∷ []) i Near) r → reaches shifted at test ns n (axis + 1) q ≡ false → list_any (along r) (take i (Near ∷ Far ∷ [])) ≡ false → list_any (along r) (take (i + 1) (Near ∷ Far ∷ [])) ≡ false
-    edge_left i r q h f t none = list_any_more (along r) (Near ∷ Far ∷ []) i Near h ∙ or_from _ _ none (ap (reaches shifted at test ns n (axis + 1)) (sym f) ∙ t)
-
-    -- one region more that does not
-    pub region_left : (j i : ℕ) (r : R) → j < length ns → 2 ≤ i → r ≡ at (get_or ns j 0) → list_any (along r) (take i (Near ∷ Far ∷ [])) ≡ false → list_any by (take j ns) ≡ false → list_any by (take (j + 1) ns) ≡ false
-    region_left j i r h past e neither none =
-        let k = get_or ns j 0 in
-        list_any_more by ns j 0 h
-        ∙ or_from _ _ none (sym (either_edge k) ∙ ap (λ x. list_any (along x) (Near ∷ Far ∷ [])) (sym e) ∙ ap (list_any (along r)) (sym (take_all i (Near ∷ Far ∷ []) past)) ∙ neither)
 
   -- no shift along the first axis, or one to an edge
   reaches_by_first : (n axis : ℕ) (p : P) → 0 < n → reaches shifted at test ns n axis p ≡ (reaches shifted at test ns (n - 1) (axis + 1) p || list_any (reaches_by shifted at test ns (n - 1) axis p) ns)
