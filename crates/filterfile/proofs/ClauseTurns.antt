@@ -5,6 +5,7 @@ use Rattle.fields.specs.declared.faults.Fault.{Fault}
 use Rattle.fields.specs.declared.faults.Part.TheVariants.{Clause as InClause}
 use Rattle.filterfile.specs.Files.{in_part, clause_of, clauses_of, behind_of}
 use Rattle.fields.specs.Reading.{Read, ◌>>=◌}
+use Rattle.fields.proofs.Inversion.{never-read}
 use Rattle.fields.proofs.Seen.{same_parts}
 
 module _ {R A : Type 0} (region_of : List ℕ → Read R) (action_of : List ℕ → Read A) (total : ℕ) where
@@ -23,7 +24,7 @@ module _ {R A : Type 0} (region_of : List ℕ → Read R) (action_of : List ℕ 
   others : (clause : Clause R A) (later : Clauses) (all : List (Clause R A)) (behind : List ℕ) → with_first clause later ≡ Ok (all, behind) → (rest : List (Clause R A)) × (later ≡ Ok (rest, behind)) × (all ≡ clause ∷ rest)
   others clause (Ok p) all behind same =
       let parts = same_parts same in (p.0, ap (λ b. Ok (p.0, b)) parts.1, sym parts.0)
-  others clause (Err fault) all behind same = let z : ◌≡◌ {A = ℕ} 0 1 = cc in absurd (omega arith)
+  others clause (Err fault) all behind same = absurd (never-read same)
 
   -- as many clauses are read as are asked for
   pub clauses-count : (count number : ℕ) (bytes : List ℕ) (all : List (Clause R A)) (behind : List ℕ) → clauses_of region_of action_of total count number bytes ≡ Ok (all, behind) → length all ≡ count
@@ -35,10 +36,7 @@ module _ {R A : Type 0} (region_of : List ℕ → Read R) (action_of : List ℕ 
       first (Ok p) read counted =
           let rest = others p.0 (clauses_of region_of action_of total count (number + 1) p.1) all behind (rw read at same) in
           ap length rest.2 ∙ ap suc (counted p.1 rest.0 behind rest.1)
-      first (Err fault) read counted =
-          let refused = rw read at same in
-          let z : ◌≡◌ {A = ℕ} 0 1 = cc in
-          absurd (omega arith)
+      first (Err fault) read counted = absurd (never-read (rw read at same))
 
   module _ (count number : ℕ) (more : number < count) (bytes : List ℕ) where
     one_ahead : clauses_of region_of action_of total (count - number) number bytes ≡ clauses_of region_of action_of total (suc (count - (number + 1))) number bytes

@@ -1,15 +1,16 @@
 -- A file that is read: from its head, its clauses and its default.
-use Rattle.std.proofs.Common.{◌≡◌, ℕ, List, length, ◌++◌, drop, Ok, Err, Result, sym, ap, ◌∙◌, arith}
+use Rattle.std.proofs.Common.{◌≡◌, ℕ, List, length, ◌++◌, drop, Ok, Err, Result, sym, ap, ◌∙◌}
 use Rattle.family.specs.declared.clauses.Clause.{Clause}
 use Rattle.fields.specs.declared.faults.Fault.{Fault}
 use Rattle.filterfile.specs.Files.{head_of, clauses_of, behind_of, default_of, file_of, answer_of, places_after}
 use Rattle.fields.specs.Reading.{Read}
+use Rattle.fields.proofs.Inversion.{never-read}
 use Rattle.filterfile.proofs.ClauseTurns.{clauses-count}
 
 -- what was read, where the bytes behind it are known
 behind_read : {X : Type 0} (r : Result (X × List ℕ) Fault) (rest : List ℕ) → behind_of r ≡ Ok rest → (x : X) × (r ≡ Ok (x, rest))
 behind_read (Ok p) rest same = let end : p.1 ≡ rest = cc in (p.0, ap (λ b. Ok (p.0, b)) end)
-behind_read (Err fault) rest same = let z : ◌≡◌ {A = ℕ} 0 1 = cc in absurd (omega arith)
+behind_read (Err fault) rest same = absurd (never-read same)
 
 module _ {R A : Type 0} (region_of : List ℕ → Read R) (action_of : List ℕ → Read A) (code memory : ℕ) (bytes : List ℕ) (count : ℕ) (body rest : List ℕ) (action : A) where
   pub file-from : (clauses : List (Clause R A)) → head_of code memory bytes ≡ Ok (count, body) → clauses_of region_of action_of (length bytes) count 0 body ≡ Ok (clauses, rest) → default_of action_of (length bytes) rest ≡ Ok action → file_of region_of action_of code memory bytes ≡ Ok (clauses, action)
