@@ -1,6 +1,6 @@
 -- Lists written one after the other at the front of lent places.
-use Rattle.std.proofs.Common.{◌≡◌, ℕ, ◌+◌, ◌-◌, ◌<◌, ◌≤◌, List, [], ◌∷◌, ◌++◌, length, get_or, take, drop, set, Some, None, fold, Option, sym, refl, ap, ◌∙◌, subst, append_assoc, append-nil, add-one, arith, length-append, length-drop, take-append-drop, length-take}
-use Rattle.std.proofs.lemmas.List.{take_at, drop_at, drop-drop, take-append-le, get_or_append_left, set_split, take_all}
+use Rattle.std.proofs.Common.{◌≡◌, ℕ, ◌+◌, ◌-◌, ◌<◌, ◌≤◌, List, [], ◌∷◌, ◌++◌, length, get_or, take, drop, set, Some, None, fold, Option, sym, ap, ◌∙◌, subst, append_assoc, append-nil, add-one, arith, length-append, length-drop, length-take}
+use Rattle.std.proofs.lemmas.List.{take_at, drop_at, drop-drop, take-append-le, get_or_append_left, set_split}
 use Rattle.compare.specs.Written.{Written}
 use Rattle.std.proofs.lemmas.List.Sums.{fold_more}
 use Rattle.compare.proofs.Extended.{Extends, extends_length, folded_front}

@@ -11,12 +11,12 @@ pub mod HoleTotals
 pub mod HolesKnown
 pub mod InOrder
 pub mod Insides
-pub mod Kept
 pub mod LaidHoles
 pub mod LaidOut
 pub mod ListWritten
 pub mod Meetings
 pub mod Members
+pub mod Numbered
 pub mod Occupied
 pub mod Outcomes
 pub mod Outnumbered

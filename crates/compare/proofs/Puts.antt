@@ -11,7 +11,6 @@ use Rattle.compare.proofs.Fronts.{written_push, written_step, written_stop, writ
 
 -- one region put behind the first n places: it stands already, there is a place, or every place is taken
 module _ {R : Type 0} (inside : R → R → Bool) (old : List R) (n : ℕ) (r : R) where
-
   pub put_behind : n < length old → stands inside r (take n old) ≡ false → Written old (put inside (take n old) r) (Some (n + 1)) (set old n r)
   put_behind h t = subst (λ l. Written old l (Some (n + 1)) (set old n r)) (sym (cond-false _ _ _ t)) (written_push old n r h)
 

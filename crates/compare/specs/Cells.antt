@@ -1,12 +1,8 @@
 -- A region's holes and its cell: the points of the region outside all its holes. Regions go by their numbers in the list.
-use Rattle.std.specs.Prelude.{◌≡◌, ℕ, zero, suc, ◌+◌, ◌^◌, ◌<◌, Bool, false, not, ◌&&◌, ◌||◌, List, [], ◌∷◌, filter, slice_index_or}
+use Rattle.std.specs.Prelude.{ℕ, zero, suc, ◌+◌, Bool, false, not, ◌&&◌, ◌||◌, List, [], ◌∷◌, filter, slice_index_or}
 use Rattle.std.specs.List.{list_any}
 use Rattle.family.specs.declared.edges.Edge.{Edge}
 use Rattle.family.specs.declared.edges.Edge.TheVariants.{Near, Far}
-
--- each answer to a number is the one given
-abbrev pub AnswersBy : (ℕ → Bool) → (ℕ → Bool → Type 0) → Type 0
-AnswersBy passes answers = (n : ℕ) (b : Bool) → n < 2 ^ 64 → answers n b → b ≡ passes n
 
 -- the region with a number; the whole region stands for a number that none has
 abbrev pub region_at : {R : Type 0} → R → List R → ℕ → R

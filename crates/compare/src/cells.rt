@@ -1,10 +1,10 @@
 // A region list: a region's holes, and whether its cell, the points of the region outside them, holds a point.
-ghost use Rattle.std.specs.Prelude.{◌≡◌, ◌+◌, ◌<◌, ◌≤◌, Bool, filter, length, take};
+ghost use Rattle.std.specs.Prelude.{◌≡◌, ◌+◌, ◌<◌, ◌≤◌, ℕ, Bool, List, length, take};
+ghost use Rattle.std.specs.Iterator.{IsFinite, Drains, size};
 ghost use Rattle.std.specs.List.{list_any};
-ghost use Rattle.compare.specs.Cells.{AnswersBy, region_at, strictly, above, holes_of, holding, in_cell, reaches, cornered, occupied};
+ghost use Rattle.compare.specs.Cells.{region_at, strictly, above, holes_of, holding, in_cell, reaches, cornered, occupied};
 
 use family::{Edge, Family};
-use std::array;
 
 // The most regions that a list has.
 pub(crate) const MOST_REGIONS: usize = 1024;
@@ -22,19 +22,18 @@ fn strictly_inside<R: Family>(a: R, b: R) -> bool
     a.is_inside(b) && !b.is_inside(a)
 }
 
-// Puts the numbers that pass a test at the front of the places; answers how many they are.
-fn keep<T: Fn(usize) -> bool>(numbers: &[usize], test: T, out: &mut [usize]) -> usize
-    requires callable { T.IsAlwaysCallable test }
-    requires fits { length numbers.now ≤ length out.old }
-    ensures within { result ≤ length numbers.now }
-    ensures kept { (passes : _ → Bool) → AnswersBy passes (T.post test) → take result out.new ≡ filter passes numbers.now }
+// Puts the numbers at the front of the places; answers how many they are.
+fn put_front<I: Iterator<Item = usize> + Drop>(numbers: I, out: &mut [usize]) -> usize
+    requires can { I.can_next numbers }
+    requires ends { IsFinite (I.remaining numbers) }
+    requires fits { size (I.remaining numbers) ≤ length out.old }
+    ensures within { result ≤ size (I.remaining numbers) }
+    ensures put { (xs : List ℕ) × Drains I.next_gives numbers xs × (take result out.new ≡ xs) }
 {
     let mut count = 0;
     for number in numbers {
-        if test(*number) {
-            out[count] = *number;
-            count += 1;
-        }
+        out[count] = number;
+        count += 1;
     }
     count
 }
@@ -78,17 +77,18 @@ impl<'a, R: Family> Listed<'a, R> {
         ensures within { result ≤ length self.now.regions.now }
         ensures found { take result out.new ≡ holes_of R.inside R.whole self.now.regions.now region }
     {
-        let numbers: [usize; MOST_REGIONS] = array::from_fn(|number| number);
         let mut nested = [0; MOST_REGIONS];
-        let count = keep(
-            &numbers[..self.regions.len()],
-            |number| strictly_inside(self.region(number), region),
+        let numbers = 0..self.regions.len();
+        let count = put_front(
+            numbers.filter(|number| strictly_inside(self.region(*number), region)),
             &mut nested,
         );
         let nested = &nested[..count];
-        keep(
-            nested,
-            |hole| !self.is_inside_any(self.region(hole), nested),
+        put_front(
+            nested
+                .iter()
+                .copied()
+                .filter(|hole| !self.is_inside_any(self.region(*hole), nested)),
             out,
         )
     }
