@@ -107,6 +107,7 @@ fn samples_come_back(rt: HostRuntime) -> Result<(), Fail> {
 #[test]
 fn sixty_four_clauses_come_back(rt: HostRuntime) -> Result<(), Fail> {
     // Every field is left out: a clause has two maps, three or four.
+    // The array stands here: a part of one that a function answers gets no proof of its length.
     let mut file = [0; 259];
     file[1] = 64;
     file[0] = 1;
