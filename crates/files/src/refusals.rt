@@ -67,6 +67,7 @@ impl Unwritten {
     }
 }
 
+// Where there is no listing, none is written.
 impl From<Refusal> for Unwritten {
     ghost from_gives = { λ refusal unwritten. unwritten ≡ Refused refusal };
 
