@@ -9,13 +9,18 @@ use std::alloc::{AllocError, Global};
 pub trait Text {
     ghost text: { Self → List ℕ };
 
+    // What putting a value tells of it beside its text; mostly nothing.
+    ghost told: { Self → Type 0 } = { λ _. Unit {0} };
+
     fn put(&self, out: &mut Output)
-        ensures { Puts out.old (text self.now) out.new };
+        ensures bytes { Puts out.old (text self.now) out.new }
+        ensures facts { told self.now };
 }
 
 // Puts the text to the front of the buffer, as far as it has places, and answers how many bytes were put.
 fn put_whole<T: Text>(value: &T, out: &mut [u8]) -> usize
-    ensures { Placed out.old 0 (T.text value.now) result out.new }
+    ensures bytes { Placed out.old 0 (T.text value.now) result out.new }
+    ensures facts { T.told value.now }
 {
     let mut output = Output::new(out);
     value.put(&mut output);
@@ -24,7 +29,8 @@ fn put_whole<T: Text>(value: &T, out: &mut [u8]) -> usize
 
 // The text's length, or the largest number where it is longer.
 pub fn text_length<T: Text>(value: &T) -> usize
-    ensures { result ≡ capped (length (T.text value.now)) }
+    ensures length { result ≡ capped (length (T.text value.now)) }
+    ensures facts { T.told value.now }
 {
     put_whole(value, &mut [])
 }
@@ -33,6 +39,7 @@ pub fn text_length<T: Text>(value: &T) -> usize
 pub fn write_text<T: Text>(value: &T, out: &mut [u8]) -> Option<usize>
     ensures answer { result ≡ written_length out.old (T.text value.now) }
     ensures bytes { out.new ≡ written out.old (T.text value.now) }
+    ensures facts { T.told value.now }
 {
     if text_length(value) > out.len() {
         return None;

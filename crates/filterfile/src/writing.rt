@@ -1,6 +1,5 @@
 // A whole file written to a lent buffer.
 ghost use Rattle.std.specs.Prelude.{◌≡◌, ◌≤◌, length};
-ghost use Rattle.buffers.specs.Outputs.{Puts};
 ghost use Rattle.filterfile.specs.WrittenFiles.{number_of, write_answer, written_file, file_bytes, ReadBack, WrittenBack, ClausesFit};
 
 use crate::files::LIMIT;
@@ -34,15 +33,13 @@ struct File<'a, R, A> {
     ghost few: { length clauses.now ≤ 64 },
 }
 
-// Putting a file tells that its numbers fit their fields.
 impl<'a, R: Written, A: WrittenAction> Text for File<'a, R, A> {
     ghost text = { λ file. file_bytes R.Written.writes A.WrittenAction.writes file.code file.clauses.now file.default };
 
-    fn put(&self, out: &mut Output)
-        ensures bytes { Puts out.old (file_bytes R.Written.writes A.WrittenAction.writes self.now.code self.now.clauses.now self.now.default) out.new }
-        ensures numbers { ClausesFit R.Written.fits A.WrittenAction.fits self.now.clauses.now }
-        ensures default { A.WrittenAction.fits self.now.default }
-    {
+    // Its numbers fit their fields.
+    ghost told = { λ file. ClausesFit R.Written.fits A.WrittenAction.fits file.clauses.now × A.WrittenAction.fits file.default };
+
+    fn put(&self, out: &mut Output) {
         out.put_byte(self.code);
         out.put_byte(self.clauses.len() as u8);
         for clause in self.clauses {
@@ -74,7 +71,5 @@ pub fn write_file<R: Written, A: WrittenAction>(
         clauses,
         default,
     };
-    // Tells that the numbers fit their fields, as a file that is read back needs.
-    file.put(&mut Output::new(&mut []));
     write_text(&file, out).ok_or(WriteError::BufferTooShort)
 }

@@ -5,4 +5,4 @@ use Rattle.buffers.proofs.texts.text_in_memory.Goals as goal
 pub returns : goal.returns
 returns g c =
     let made = c.in_ok-bytes.ensures.len in
-    filled {s = g.T.Text.text c.args.value.now} c.put_whole.ensures c.in_ok-bytes.bytes.len _ c.deref_mut.ensures.len (omega arith)
+    filled {s = g.T.Text.text c.args.value.now} c.put_whole.ensures.bytes c.in_ok-bytes.bytes.len _ c.deref_mut.ensures.len (omega arith)
