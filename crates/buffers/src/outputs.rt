@@ -1,6 +1,7 @@
 // A lent buffer that a text is put into, byte by byte.
-ghost use Rattle.std.specs.Prelude.{◌≡◌, [], ◌∷◌};
-ghost use Rattle.buffers.specs.Outputs.{Puts};
+ghost use Rattle.std.specs.Prelude.{◌≡◌, length, ◌<◌, ◌^◌};
+
+mod putting;
 
 // The buffer, and the place of the next byte. The place may lie behind the buffer's end, so that a text put into an empty
 // buffer is measured.
@@ -8,6 +9,8 @@ ghost use Rattle.buffers.specs.Outputs.{Puts};
 pub struct Output<'a> {
     bytes: &'a mut [u8],
     place: usize,
+    ghost small: { length bytes.now < 2 ^ 64 },
+    ghost range: { place < 2 ^ 64 },
 }
 
 impl<'a> Output<'a> {
@@ -17,31 +20,22 @@ impl<'a> Output<'a> {
         ensures memory { result.bytes.now ≡ bytes.old }
         ensures lender { result.bytes.ghost_name ≡ bytes.entry.ghost_name }
     {
-        Output { bytes, place: 0 }
+        Output::at(bytes, 0)
     }
 
-    // How many bytes were put, or the largest number.
+    // The next byte is the one at the place, which may lie behind the buffer's end.
+    pub fn at(bytes: &'a mut [u8], place: usize) -> Output<'a>
+        ensures place { result.place ≡ place }
+        ensures memory { result.bytes.now ≡ bytes.old }
+        ensures lender { result.bytes.ghost_name ≡ bytes.entry.ghost_name }
+    {
+        Output { bytes, place }
+    }
+
+    // The place of the next byte, or the largest number.
     pub fn len(&self) -> usize
         ensures { result ≡ self.now.place }
     {
         self.place
-    }
-
-    pub fn put_byte(&mut self, byte: u8)
-        ensures { Puts self.old (byte ∷ []) self.new }
-    {
-        let place = self.place;
-        self.place = place.saturating_add(1);
-        if place < self.bytes.len() {
-            self.bytes[place] = byte;
-        }
-    }
-
-    pub fn put_bytes(&mut self, text: &[u8])
-        ensures { Puts self.old text.now self.new }
-    {
-        for byte in text {
-            self.put_byte(*byte);
-        }
     }
 }

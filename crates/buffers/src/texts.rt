@@ -6,12 +6,14 @@ ghost use Rattle.buffers.specs.Outputs.{Puts};
 use crate::outputs::Output;
 use std::alloc::{AllocError, Global};
 
+// A value that has a text.
 pub trait Text {
     ghost text: { Self → List ℕ };
 
     // What putting a value tells of it beside its text; mostly nothing.
     ghost told: { Self → Type 0 } = { λ _. Unit {0} };
 
+    // Puts the text at the output's place.
     fn put(&self, out: &mut Output)
         ensures bytes { Puts out.old (text self.now) out.new }
         ensures facts { told self.now };

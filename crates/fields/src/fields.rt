@@ -18,6 +18,7 @@ pub trait Number: Copy + PartialEq {
     fn read(bytes: &[u8]) -> Result<(Self, &[u8]), RecordFault>
         ensures { seen_as value result ≡ field_of width bytes.now };
 
+    // Puts the number's bytes at the output's place.
     fn put(self, out: &mut Output)
         ensures { Puts out.old (bytes_of width (value self)) out.new };
 
@@ -101,13 +102,11 @@ pub fn put_given<N: Number>(number: N, absent: N, out: &mut Output)
 {
     if number != absent {
         number.put(out);
-    } else {
-        out.put_bytes(&[]);
     }
 }
 
 // The bit of a map for a field: whether the field is written.
-pub fn given_bit<N: Number>(absent: N, number: N) -> u8
+pub fn given_bit<N: Number>(number: N, absent: N) -> u8
     ensures { result ≡ given_bit (N.value absent) (N.value number) }
 {
     u8::from(number != absent)

@@ -25,7 +25,8 @@ pub trait Layout: Copy {
     fn field_bits(map: u8) -> u8
         ensures { result ≡ layout.field_bits map };
 
-    // Reads the field of a bit of the map. Bits go by the numbers that the file format gives them.
+    // Reads the field of a bit of the map. The place is what `trailing_zeros` of the map gives, and
+    // each kind numbers its bits in its own way, so that an enum would be made of the number by the same match.
     fn take_field(self, place: u32, bytes: &[u8]) -> Result<(Self, &[u8]), RecordFault>
         ensures { seen result ≡ layout.taken self place bytes.now };
 
@@ -43,7 +44,7 @@ fn read_fields<L: Layout>(map: u8, bytes: &[u8]) -> Result<(L, &[u8]), RecordFau
     let mut numbers = L::absent();
     let mut rest = bytes;
     let mut ahead = map;
-    // The map's ones number the fields.
+    // It is a rule of the project that the number of the map's ones is the number of the fields.
     for _ in 0..map.count_ones() {
         (numbers, rest) = numbers.take_field(ahead.trailing_zeros(), rest)?;
         ahead &= ahead - 1;
