@@ -31,6 +31,7 @@ pub trait Family: Copy {
     fn first_point() -> Self::Point
         ensures { result ≡ first };
 
+    // Axes go by number, from 1, since a pair counts the axes of its two parts one behind the other.
     fn axis_count() -> u8
         ensures { result ≡ axes };
 
@@ -43,7 +44,7 @@ pub trait Family: Copy {
     fn meet_with(self, other: Self) -> Option<Self>
         ensures { result ≡ meet self other };
 
-    // The point moved along the axis to an edge of this region.
+    // The point moved along the axis to an edge of this region; a number that is no axis leaves it as it is.
     fn shift(self, point: Self::Point, axis: u8, edge: Edge) -> Self::Point
         ensures { result ≡ shifted point axis edge self };
 }

@@ -57,14 +57,13 @@ impl Layout for ActionNumbers {
         Ok((numbers, rest))
     }
 
+    // The accept bit decides, and only with it the numbers count.
     fn make(self, map: u8) -> Result<RouteAction, MakeError> {
         if map % 2 == 0 {
             return Ok(RouteAction::Reject);
         }
-        Ok(RouteAction::Accept {
-            preference: self.preference,
-            med: self.med,
-        })
+        let ActionNumbers { preference, med } = self;
+        Ok(RouteAction::Accept { preference, med })
     }
 }
 
@@ -80,15 +79,15 @@ fn put_number(number: Option<u32>, out: &mut Output)
     ensures bytes { Puts out.old (number_bytes number) out.new }
     ensures numbers { NumberFits number }
 {
-    match number {
-        Some(value) => value.put(out),
-        None => out.put_bytes(&[]),
+    if let Some(value) = number {
+        value.put(out);
     }
 }
 
 impl RecordedAction for RouteAction {
     ghost reads = { record_of action_layout };
 
+    // The clause on the count is this kind's own, since each kind's records have sizes of their own.
     #[tactic(auto, using(crate::proofs::KindSizes::action_took))]
     fn read(bytes: &[u8]) -> Result<(RouteAction, &[u8]), RecordFault>
         ensures answer { seen result ≡ record_of action_layout bytes.now }

@@ -89,15 +89,16 @@ impl Layout for RangeNumbers {
 fn map_of(range: PrefixRange) -> u8
     ensures { result ≡ range_map range }
 {
-    given_bit(0, range.address())
-        + 2 * given_bit(0, range.length())
-        + 4 * given_bit(range.length(), range.low())
-        + 8 * given_bit(range.low(), range.high())
+    given_bit(range.address(), 0)
+        + 2 * given_bit(range.length(), 0)
+        + 4 * given_bit(range.low(), range.length())
+        + 8 * given_bit(range.high(), range.low())
 }
 
 impl Recorded for PrefixRange {
     ghost reads = { record_of range_layout };
 
+    // The clause on the count is this kind's own, since each kind's records have sizes of their own.
     #[tactic(auto, using(crate::proofs::KindSizes::range_took))]
     fn read(bytes: &[u8]) -> Result<(PrefixRange, &[u8]), RecordFault>
         ensures answer { seen result ≡ record_of range_layout bytes.now }

@@ -8,8 +8,9 @@ use buffers::Output;
 use family::{ActionKind, Family};
 use fields::RecordFault;
 
-// What is read and written of a region is also told by the points that it holds. An action holds none, so action kinds have
-// traits of their own.
+// It is a rule of the project that a recorded family is a trait over the family trait whose functions promise what a region
+// means. An action holds no points, so action kinds have traits of their own; a third trait would only move the clause that
+// both share.
 pub trait Recorded: Family {
     // The region at the front of some bytes and the bytes behind it, or the first fault.
     ghost reads: { List ℕ → Read Self };
@@ -34,6 +35,7 @@ pub trait Written: Recorded {
     // The region's numbers fit their fields.
     ghost fits: { Self → Type 0 };
 
+    // Puts the region's record at the output's place.
     fn write(self, out: &mut Output)
         ensures bytes { Puts out.old (writes self) out.new }
         ensures numbers { fits self }
@@ -50,6 +52,7 @@ pub trait WrittenAction: RecordedAction {
     // The action's numbers fit their fields.
     ghost fits: { Self → Type 0 };
 
+    // Puts the action's record at the output's place.
     fn write(self, out: &mut Output)
         ensures bytes { Puts out.old (writes self) out.new }
         ensures numbers { fits self };

@@ -14,7 +14,8 @@ use buffers::Output;
 use fields::{Layout, Number, RecordFault, given, given_bit, put_given, read_record};
 use supplied::{MakeError, Span, SpanPoint};
 
-// An end, which has as many bytes as its top: one, two or four.
+// An end, which has as many bytes as its top: one, two or four. The top is a const, by which no type of a number can be
+// picked, so that reading and putting decide by it.
 #[derive(Clone, Copy, PartialEq)]
 pub struct End<const TOP: u32>(pub u32);
 
@@ -97,6 +98,7 @@ impl<const TOP: u32> Layout for SpanNumbers<TOP> {
 impl<const TOP: u32> Recorded for Span<TOP> {
     ghost reads = { record_of (span_layout TOP) };
 
+    // The clause on the count is this kind's own, since each kind's records have sizes of their own.
     #[tactic(auto, using(crate::proofs::KindSizes::span_took))]
     fn read(bytes: &[u8]) -> Result<(Span<TOP>, &[u8]), RecordFault>
         ensures answer { seen result ≡ record_of (span_layout TOP) bytes.now }
@@ -118,7 +120,7 @@ impl<const TOP: u32> Written for Span<TOP> {
         let absent: SpanNumbers<TOP> = SpanNumbers::absent();
         let low = End(self.low());
         let high = End(self.high());
-        out.put_byte(given_bit(absent.low, low) + 2 * given_bit(absent.high, high));
+        out.put_byte(given_bit(low, absent.low) + 2 * given_bit(high, absent.high));
         put_given(low, absent.low, out);
         put_given(high, absent.high, out);
     }

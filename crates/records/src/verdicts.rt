@@ -37,6 +37,7 @@ impl Layout for VerdictNumbers {
         Ok((self, bytes))
     }
 
+    // The accept bit alone tells the verdict.
     fn make(self, map: u8) -> Result<Verdict, MakeError> {
         if map % 2 == 0 {
             return Ok(Verdict::Reject);
@@ -48,6 +49,7 @@ impl Layout for VerdictNumbers {
 impl RecordedAction for Verdict {
     ghost reads = { record_of verdict_layout };
 
+    // The clause on the count is this kind's own, since each kind's records have sizes of their own.
     #[tactic(auto, using(crate::proofs::KindSizes::verdict_took))]
     fn read(bytes: &[u8]) -> Result<(Verdict, &[u8]), RecordFault>
         ensures answer { seen result ≡ record_of verdict_layout bytes.now }
@@ -65,9 +67,6 @@ impl WrittenAction for Verdict {
     ghost undoing = { verdict_undoing };
 
     fn write(self, out: &mut Output) {
-        match self {
-            Verdict::Reject => out.put_byte(0),
-            Verdict::Accept => out.put_byte(1),
-        }
+        out.put_byte(self as u8);
     }
 }

@@ -17,10 +17,12 @@ pub enum RouteAction {
 
 #[derive(Clone, Copy, PartialEq, Eq, Debug)]
 pub enum Verdict {
-    Reject,
-    Accept,
+    Reject = 0,
+    Accept = 1,
 }
 
+// The two impls are alike: a macro cannot give an impl with ghost items, and one impl for all types with `==` would also take
+// types that are no actions.
 impl ActionKind for RouteAction {
     type Effect = RouteAction;
 

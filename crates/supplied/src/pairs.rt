@@ -70,7 +70,7 @@ impl<F: Family, G: Family> Family for Pair<F, G> {
         })
     }
 
-    // The first part's axes stand before the second's.
+    // The first part's axes stand before the second's, so that an axis is a number and not an enum of one family.
     fn shift(
         self,
         point: Pair<F::Point, G::Point>,

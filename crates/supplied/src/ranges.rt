@@ -5,8 +5,8 @@ mod making;
 mod parts;
 mod questions;
 
-// The prefix is two numbers, not a Route: definitions here and above read them as the range's own, and a range with a model
-// that hides the Route cannot stand in a pair or a clause that is copied.
+// The prefix is two numbers: a `prefix: Route` field would only lengthen each clause and definition that reads `r.address`, and
+// with a model that hides it, a range with a struct inside could not be passed by value twice (tried on a small crate).
 #[derive(Clone, Copy, PartialEq, Eq, Debug)]
 pub struct PrefixRange {
     address: u32,

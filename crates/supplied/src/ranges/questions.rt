@@ -67,7 +67,7 @@ impl Family for PrefixRange {
         }
     }
 
-    // Axis 1 is the length, axis 2 the address.
+    // Axis 1 is the length, axis 2 the address, as a pair counts them; any other number leaves the point.
     fn shift(self, point: Route, axis: u8, edge: Edge) -> Route {
         match axis {
             1 => {

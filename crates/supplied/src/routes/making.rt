@@ -20,7 +20,7 @@ impl Route {
         Ok(Route { address, length })
     }
 
-    // The address with every bit after the length made zero.
+    // The address with every bit after the length made zero; `length ≤ 32` is asked for the reason that prefixes.rt gives.
     pub(crate) fn cut(address: u32, length: u8) -> Route
         requires { length ≤ 32 }
         ensures address { result.address ≡ cut_down (2 ^ (32 - length)) address }

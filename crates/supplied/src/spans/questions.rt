@@ -49,7 +49,7 @@ impl<const TOP: u32> Family for Span<TOP> {
         Span::new(self.low.max(other.low), self.high.min(other.high)).ok()
     }
 
-    // The one axis is the number itself.
+    // Axis 1 is the number itself; any other number leaves the point.
     fn shift(self, point: SpanPoint<TOP>, axis: u8, edge: Edge) -> SpanPoint<TOP> {
         if axis != 1 {
             return point;
