@@ -24,9 +24,6 @@ over-capped o n t h =
       | inr g ↦ over-past o (capped n) t (omega arith) ∙ sym (over-past o n t (omega arith))
     ]
 
-pub placed_nothing : (o : List ℕ) (at : ℕ) → length o < 2 ^ 64 → at < 2 ^ 64 → Placed o at [] at o
-placed_nothing o at h k = record { small = h; ends = omega arith; bytes = refl }
-
 pub placed_byte : {o o' : List ℕ} {at at' b : ℕ} → length o < 2 ^ 64 → at' ≡ capped (at + 1) → o' ≡ set o at b → Placed o at (b ∷ []) at' o'
 placed_byte h e w = record { small = h; ends = e; bytes = w }
 

@@ -1,10 +1,10 @@
 -- Texts put into an output, one behind the other.
-use Rattle.std.proofs.Common.{◌≡◌, ℕ, List, [], ◌++◌, ◌∙◌, refl, subst}
+use Rattle.std.proofs.Common.{◌≡◌, ℕ, List, ◌++◌, ◌∙◌, subst}
 use Rattle.buffers.specs.Buffers.{Placed}
 use Rattle.buffers.specs.Outputs.{Puts}
 use Rattle.buffers.specs.declared.outputs.Output.{Output}
 use Rattle.buffers.proofs.Placing as placing
-use Rattle.buffers.proofs.Placing.{placed_nothing, placed_byte}
+use Rattle.buffers.proofs.Placing.{placed_byte}
 
 -- two texts put one behind the other
 infixl 60 ◌then◌
@@ -14,9 +14,6 @@ pub ◌then◌ : {a b c : Output} {s t : List ℕ} → Puts a s b → Puts b t c
 -- equal texts
 pub same_text : {a b : Output} {s t : List ℕ} → s ≡ t → Puts a s b → Puts a t b
 same_text {a} {b} e p = subst (λ x. Puts a x b) e p
-
-pub nothing : (a : Output) → Puts a [] a
-nothing a = record { placed = placed_nothing a.bytes.now a.place a.small a.range; lender = refl }
 
 -- a text put into a new output over a buffer
 pub whole : {o o' s : List ℕ} {n : ℕ} (first last : Output) → first.place ≡ 0 → first.bytes.now ≡ o → Puts first s last → n ≡ last.place → o' ≡ last.bytes.now → Placed o 0 s n o'
