@@ -4,7 +4,6 @@ use Rattle.buffers.specs.Buffers.{Placed}
 use Rattle.buffers.specs.Outputs.{Puts}
 use Rattle.buffers.specs.declared.outputs.Output.{Output}
 use Rattle.buffers.proofs.Placing as placing
-use Rattle.buffers.proofs.Placing.{placed_byte}
 
 -- two texts put one behind the other
 infixl 60 ◌then◌

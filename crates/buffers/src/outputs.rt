@@ -1,5 +1,5 @@
 // A lent buffer that a text is put into, byte by byte.
-ghost use Rattle.std.specs.Prelude.{◌≡◌, length, ◌<◌, ◌^◌};
+ghost use Rattle.std.specs.Prelude.{◌≡◌, ◌<◌, ◌^◌};
 
 mod putting;
 
@@ -9,7 +9,6 @@ mod putting;
 pub struct Output<'a> {
     bytes: &'a mut [u8],
     place: usize,
-    ghost small: { length bytes.now < 2 ^ 64 },
     ghost range: { place < 2 ^ 64 },
 }
 

@@ -25,8 +25,8 @@ pub trait Layout: Copy {
     fn field_bits(map: u8) -> u8
         ensures { result ≡ layout.field_bits map };
 
-    // Reads the field of a bit of the map. The place is what `trailing_zeros` of the map gives, and
-    // each kind numbers its bits in its own way, so that an enum would be made of the number by the same match.
+    // Reads the field of a bit of the map. The place is what `trailing_zeros` of the map gives, and each kind numbers its bits
+    // in its own way, so that an enum would be made of the number by the same match.
     fn take_field(self, place: u32, bytes: &[u8]) -> Result<(Self, &[u8]), RecordFault>
         ensures { seen result ≡ layout.taken self place bytes.now };
 

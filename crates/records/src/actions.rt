@@ -57,7 +57,7 @@ impl Layout for ActionNumbers {
         Ok((numbers, rest))
     }
 
-    // The accept bit decides, and only with it the numbers count.
+    // The file's format tells accept by a bit of the map, and only with it the numbers count.
     fn make(self, map: u8) -> Result<RouteAction, MakeError> {
         if map % 2 == 0 {
             return Ok(RouteAction::Reject);

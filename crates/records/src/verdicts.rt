@@ -37,7 +37,7 @@ impl Layout for VerdictNumbers {
         Ok((self, bytes))
     }
 
-    // The accept bit alone tells the verdict.
+    // The file's format tells accept by a bit of the map.
     fn make(self, map: u8) -> Result<Verdict, MakeError> {
         if map % 2 == 0 {
             return Ok(Verdict::Reject);
