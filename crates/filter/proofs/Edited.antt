@@ -68,7 +68,7 @@ module _ {R A : Type 0} (reject : A) (places : List (Clause R A)) where
     upto : length (take count places) ≡ count
     upto = omega (arith, fits, length-take count places)
 
-    size : count ≡ length (clauses_in places count)
+    pub size : count ≡ length (clauses_in places count)
     size = sym (ap (λ k. length (take k places)) (sym all) ∙ upto)
 
     inserted : (place : ℕ) (c : Clause R A) → place ≤ count → count < usable_places (length places) → view_of reject (inserted_places places count place c) (count + 1) ≡ with_clauses v (insert (clauses_in places count) place c)
@@ -112,6 +112,12 @@ module _ {R A : Type 0} (reject : A) (places : List (Clause R A)) where
         let answer : Ok tt ≡ insert_answer v place = done ∙ told ∙ ap (λ k. insert_at_answer k (usable_places (length places)) place) size in
         ap (λ l. view_of reject l (count + 1)) (put ∙ ap (λ o. if_done o (inserted_places places count place c) places) (sym done))
         ∙ inserted place c fit.0 fit.1
+        ∙ ap (λ o. if_done o (with_clauses v (insert (clauses_in places count) place c)) v) answer
+
+    pub view-not-inserted : (place : ℕ) (c : Clause R A) (after : List (Clause R A)) (r : Result (Unit {0}) EditError) (refused : EditError) → Err refused ≡ r → r ≡ insert_at_answer count (usable_places (length places)) place → after ≡ if_done r (inserted_places places count place c) places → view_of reject after count ≡ after_insert v place c
+    view-not-inserted place c after r refused was told put =
+        let answer : Err refused ≡ insert_answer v place = was ∙ told ∙ ap (λ k. insert_at_answer k (usable_places (length places)) place) size in
+        ap (λ l. view_of reject l count) (put ∙ ap (λ o. if_done o (inserted_places places count place c) places) (sym was))
         ∙ ap (λ o. if_done o (with_clauses v (insert (clauses_in places count) place c)) v) answer
 
     pub view-removed : (place : ℕ) (after : List (Clause R A)) (r : Result (Unit {0}) EditError) → Ok tt ≡ r → r ≡ at_answer count place → after ≡ if_done r (removed_places places count place) places → view_of reject after (count - 1) ≡ after_remove v place

@@ -75,3 +75,6 @@ module _ {X : Type 0} (xs : List X) (u n i : ℕ) (x : X) (within : u ≤ length
       ∙ ap (λ l. (insert l i x ++ drop (n + 1) (take u xs)) ++ drop u xs) (take-take n u xs low)
       ∙ append_assoc (insert (take n xs) i x) (drop (n + 1) (take u xs)) (drop u xs)
       ∙ ap (λ l. insert (take n xs) i x ++ l) (sym (drop-append-le (n + 1) (take u xs) (drop u xs) reach) ∙ ap (drop (n + 1)) (take-append-drop u xs))
+
+  pub answer_in_front : (room : ℕ) (r : Result (Unit {0}) EditError) → u ≡ room → r ≡ insert_at_answer n (length (take u xs)) i → r ≡ insert_at_answer n room i
+  answer_in_front room r same told = told ∙ ap (λ k. insert_at_answer n k i) (omega (arith, length-take u xs))

@@ -5,14 +5,16 @@ ghost use Rattle.filter.specs.Views.{empty_view, with_default, loaded_view, load
 ghost use Rattle.filter.specs.Ledger.{if_done, insert_answer, after_insert, place_answer, after_remove, after_replace, default_answer, after_default, inserted_places, removed_places};
 
 use crate::errors::EditError;
-use crate::places::{insert_usable, put_last, remove_at, replace_at};
+use crate::places::{insert_at, put_last, remove_at, replace_at};
 use crate::sealed::Sealed;
 use family::{ActionKind, Clause, Family};
 use fields::Fault;
-use filterfile::read_file;
+use filterfile::{read_file, usable_places};
 use records::{Recorded, RecordedAction};
 
 // The clauses stand in the first places, the default in the last. No Model: the methods promise what the lent places hold.
+// A type of its own with the fields of Sealed: each state is a type that is moved, a rule of the project.
+// Each method tells by `lender` that the places are the slice that was lent: it relates two moments, which no type says.
 #[derive(Drop)]
 pub struct Draft<'a, R, A> {
     places: &'a mut [Clause<R, A>],
@@ -50,7 +52,11 @@ impl<'a, R: Family, A: ActionKind> Draft<'a, R, A> {
         ensures memory { self.new.places.now ≡ if_done result (inserted_places self.old.places.now (length (draft_view A.reject self.old).clauses) place clause) self.old.places.now }
         ensures lender { self.new.places.ghost_name ≡ self.old.places.ghost_name }
     {
-        insert_usable(self.places, self.count, place, clause)?;
+        // A name of its own, so that what the places hold is known after their front is lent.
+        let places = &mut *self.places;
+        // One is kept for the default, and at most 64 are used.
+        let usable = usable_places(places.len());
+        insert_at(&mut places[..usable], self.count, place, clause)?;
         self.count += 1;
         Ok(())
     }
@@ -84,11 +90,10 @@ impl<'a, R: Family, A: ActionKind> Draft<'a, R, A> {
         ensures memory { self.new.places.now ≡ if_done result (with_default R.whole self.old.places.now action) self.old.places.now }
         ensures lender { self.new.places.ghost_name ≡ self.old.places.ghost_name }
     {
-        // The borrow checker does not cover is_empty of a slice that a field lends.
-        if self.places.len() == 0 {
-            return Err(EditError::NoPlaceLeft);
-        }
-        put_last(self.places, default_place(action));
+        // A name of its own, so that what the places hold is known after the last is lent.
+        let places = &mut *self.places;
+        let last = places.last_mut().ok_or(EditError::NoPlaceLeft)?;
+        *last = default_place(action);
         Ok(())
     }
 
@@ -107,6 +112,7 @@ impl<'a, R: Recorded, A: RecordedAction> Draft<'a, R, A> {
     ghost use Rattle.filter.specs.States.{draft_view};
 
     // Sets clauses and default to those of a file of the given family code; a fault leaves the draft as it was.
+    // Any code is taken, a rule of the project: see read_file.
     pub fn load(&mut self, code: u8, bytes: &[u8]) -> Result<(), Fault>
         ensures answer { result ≡ load_answer (file_of R.Recorded.reads A.RecordedAction.reads code (length self.old.places.now) bytes.now) }
         ensures view { draft_view A.ActionKind.reject self.new ≡ loaded_view (draft_view A.ActionKind.reject self.old) (file_of R.Recorded.reads A.RecordedAction.reads code (length self.old.places.now) bytes.now) }

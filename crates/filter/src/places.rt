@@ -1,11 +1,10 @@
 // Lent places: a list kept at their front, and the last place.
+// insert_at, remove_at and replace_at take a slice and its count, a rule of the project: a draft hands on the slice that it was lent.
 ghost use Rattle.std.specs.Prelude.{◌≡◌, ◌≤◌, ◌+◌, ◌-◌, ◌++◌, length, take, drop, slice_set};
 ghost use Rattle.std.specs.List.{insert, remove};
-ghost use Rattle.filterfile.specs.Files.{usable_places};
 ghost use Rattle.filter.specs.Ledger.{if_done, insert_at_answer, at_answer};
 
 use crate::errors::EditError;
-use filterfile::usable_places;
 
 // Puts an element before the one at a place, or at the end of the first `count`.
 pub fn insert_at<T: Copy>(
@@ -26,21 +25,6 @@ pub fn insert_at<T: Copy>(
     places[count] = x;
     places[place..count + 1].rotate_right(1);
     Ok(())
-}
-
-// The same, where only the usable places are taken: one is kept for the default.
-// It lends the front of a parameter; of the front of a field's slice, lent in a method, a proof knows nothing afterwards.
-pub(crate) fn insert_usable<T: Copy>(
-    places: &mut [T],
-    count: usize,
-    place: usize,
-    x: T,
-) -> Result<(), EditError>
-    ensures answer { result ≡ insert_at_answer count (usable_places (length places.old)) place }
-    ensures memory { places.new ≡ if_done result (insert (take count places.old) place x ++ drop (count + 1) places.old) places.old }
-{
-    let usable = usable_places(places.len());
-    insert_at(&mut places[..usable], count, place, x)
 }
 
 // Takes the element at a place out of the first `count`. It stays behind the others.

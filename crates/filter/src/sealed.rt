@@ -11,7 +11,8 @@ use family::{ActionKind, Clause, Family};
 use filterfile::{WriteError, write_file};
 use records::{Written, WrittenAction};
 
-// The places as in a draft. No Model, so that sealing can promise the same places.
+// The fields of Draft in a type of its own: each state is a type that is moved, a rule of the project.
+// No Model, so that sealing can promise the same places.
 #[derive(Drop)]
 pub struct Sealed<'a, R, A> {
     pub(crate) places: &'a mut [Clause<R, A>],
@@ -62,7 +63,7 @@ impl<'a, R: Written, A: WrittenAction> Sealed<'a, R, A> {
     ghost use Rattle.filter.specs.States.{sealed_view};
 
     // Writes the filter as a file of the given family code to the front of the buffer: answers the file's length.
-    // A buffer that is too short is left as it was.
+    // A buffer that is too short is left as it was. Any code is taken, a rule of the project: see write_file.
     pub fn write(&self, code: u8, out: &mut [u8]) -> Result<usize, WriteError>
         ensures answer { result ≡ answer_in out.old (file_of_view R.Written.writes A.WrittenAction.writes code (sealed_view A.ActionKind.reject self.now)) }
         ensures bytes { out.new ≡ written out.old (file_of_view R.Written.writes A.WrittenAction.writes code (sealed_view A.ActionKind.reject self.now)) }

@@ -76,7 +76,8 @@ abbrev pub places_after : {C A : Type 0} → List C → Result (List C × A) Fau
 places_after places (Ok p) = p.0 ++ drop (length p.0) places
 places_after places (Err fault) = places
 
--- clauses handed to a function one after the other, each with its number, the first of which is given
+-- what a function holds before and after it is handed these clauses of a file, each once and in their order, with its number in the file;
+-- the first has the given number, and `step` tells what one call makes of what the function holds
 pub data HandedOver {F C : Type 0} (step : F → ℕ → C → Unit {0} → F → Type 0) : ℕ → F → List C → F → Type 0 where
   none : {number : ℕ} {state : F} → HandedOver step number state [] state
   next : {number : ℕ} {before between after : F} {clause : C} {clauses : List C} → step before number clause tt between → HandedOver step (number + 1) between clauses after → HandedOver step number before (clause ∷ clauses) after

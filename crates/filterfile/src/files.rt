@@ -19,7 +19,7 @@ pub fn usable_places(memory: usize) -> usize
     memory.saturating_sub(1).min(LIMIT)
 }
 
-// The number of clauses, behind the family code.
+// The number of clauses, behind the family code: a plain number, see read_file.
 fn read_head(code: u8, memory: usize, bytes: &[u8]) -> Result<(usize, &[u8]), RecordFault>
     ensures { seen result ≡ head_of code memory bytes.now }
 {
@@ -59,6 +59,7 @@ fn read_clauses<'a, R: Recorded, A: RecordedAction, F: FnMut(usize, Clause<R, A>
     ensures rest { seen_rest result ≡ behind_of (clauses_of R.Recorded.reads A.RecordedAction.reads total count 0 bytes.now) }
     ensures kept { IfOk (clauses_of R.Recorded.reads A.RecordedAction.reads total count 0 bytes.now) (λ p. HandedOver F.step 0 keep.old p.0 keep.new) }
 {
+    // A loop, as a fault tells the number: in a try_fold the same three lines stand in a closure that captures `keep`.
     let mut rest = bytes;
     for number in 0..count {
         let read = read_clause::<R, A>(rest);
@@ -82,6 +83,7 @@ fn read_default<A: RecordedAction>(total: usize, bytes: &[u8]) -> Result<A, Faul
 
 // Reads a file of the family of this code into the first places: answers the number of its clauses and its default.
 // A file that is refused leaves the places as they were.
+// The code is any number, also of a family that is not supplied, a rule of the project: a narrower type would ask more of callers.
 pub fn read_file<R: Recorded, A: RecordedAction>(
     code: u8,
     bytes: &[u8],
@@ -97,7 +99,8 @@ pub fn read_file<R: Recorded, A: RecordedAction>(
     let rest = read_clauses::<R, A, _>(total, count, body, &mut |_, _| ())?;
     let default = read_default::<A>(total, rest)?;
     let mut fill = |number: usize, clause: Clause<R, A>| {
-        // By its index: of a place behind `get_mut` the proof knows nothing.
+        // The head has told a count that the places hold, so each number is in; read_clauses may call at any number, so it is tested.
+        // By its index: after `get_mut` of a slice a proof knows its length and no element.
         if number < places.len() {
             places[number] = clause;
         }

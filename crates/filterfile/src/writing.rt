@@ -24,7 +24,7 @@ impl WriteError {
     }
 }
 
-// A file of the family of a code.
+// A file of the family of a code, which is a plain number: see write_file.
 #[derive(Drop)]
 struct File<'a, R, A> {
     code: u8,
@@ -52,6 +52,7 @@ impl<'a, R: Written, A: WrittenAction> Text for File<'a, R, A> {
 
 // Writes the file of these clauses and this default, of the family of this code, to the front of the buffer:
 // answers its length. A refusal leaves the buffer as it was.
+// The code is any number, also of a family that is not supplied, a rule of the project: a narrower type would ask more of callers.
 pub fn write_file<R: Written, A: WrittenAction>(
     code: u8,
     clauses: &[Clause<R, A>],
