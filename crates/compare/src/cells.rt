@@ -11,7 +11,7 @@ pub(crate) const MOST_REGIONS: usize = 1024;
 
 // The regions of a comparison, in memory lent by the caller; they go by their numbers.
 #[derive(Drop)]
-pub(crate) struct Listed<'a, R> {
+pub(crate) struct RegionList<'a, R> {
     regions: &'a [R],
     ghost few: { length regions.now ≤ 1024 },
 }
@@ -38,12 +38,12 @@ fn put_front<I: Iterator<Item = usize> + Drop>(numbers: I, out: &mut [usize]) ->
     count
 }
 
-impl<'a, R: Family> Listed<'a, R> {
-    pub(crate) fn new(regions: &'a [R]) -> Listed<'a, R>
+impl<'a, R: Family> RegionList<'a, R> {
+    pub(crate) fn new(regions: &'a [R]) -> RegionList<'a, R>
         requires { length regions.now ≤ 1024 }
         ensures { result.regions.now ≡ regions.now }
     {
-        Listed { regions }
+        RegionList { regions }
     }
 
     pub(crate) fn len(&self) -> usize

@@ -4,7 +4,7 @@ ghost use Rattle.filter.specs.States.{sealed_view};
 ghost use Rattle.compare.specs.Answered.{Rightly};
 ghost use Rattle.compare.specs.Compared.{unless_declined, list_for, rows_in, holes_in, report_on, outcome, regions_after};
 
-use crate::cells::{Listed, MOST_REGIONS};
+use crate::cells::{RegionList, MOST_REGIONS};
 use crate::regions::gather;
 use crate::reports::{Declined, Report};
 use crate::rows::{Row, count_holes, lay_rows};
@@ -16,7 +16,7 @@ const MOST_AXES: u8 = 4;
 
 // The rows of a region list and their holes, or why they have no places.
 fn report_on<R: Family, A: ActionKind>(
-    listed: &Listed<R>,
+    listed: &RegionList<R>,
     left: &Sealed<R, A>,
     right: &Sealed<R, A>,
     rows: &mut [Row],
@@ -66,5 +66,5 @@ pub fn compare<R: Family, A: ActionKind>(
     let used = regions.len().min(MOST_REGIONS);
     let places = &mut regions[..used];
     let count = gather(places, left.clauses(), right.clauses()).ok_or(Declined::NoRegionPlace)?;
-    report_on(&Listed::new(&regions[..count]), left, right, rows, holes)
+    report_on(&RegionList::new(&regions[..count]), left, right, rows, holes)
 }

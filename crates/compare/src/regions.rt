@@ -26,7 +26,7 @@ fn is_standing<R: Family>(listed: &[R], region: R) -> bool
 }
 
 impl<'a, R: Family> Growing<'a, R> {
-    ghost use Rattle.compare.specs.Growing.{so_far, Puts};
+    ghost use Rattle.compare.specs.Growing.{so_far, Grows};
 
     fn new(places: &'a mut [R]) -> Growing<'a, R>
         ensures empty { result.count ≡ 0 }
@@ -38,7 +38,7 @@ impl<'a, R: Family> Growing<'a, R> {
 
     // Puts the region at the end unless it stands.
     fn put(&mut self, region: R) -> Option<()>
-        ensures { Puts self.old (put R.inside (so_far self.old) region) result self.new }
+        ensures { Grows self.old (put R.inside (so_far self.old) region) result self.new }
     {
         // A name of its own, so that what the places hold is known after they are read.
         let places = &mut *self.places;
@@ -54,7 +54,7 @@ impl<'a, R: Family> Growing<'a, R> {
     }
 
     fn put_clauses<A: ActionKind>(&mut self, clauses: &[Clause<R, A>]) -> Option<()>
-        ensures { Puts self.old (put_clauses R.inside clauses.now (so_far self.old)) result self.new }
+        ensures { Grows self.old (put_clauses R.inside clauses.now (so_far self.old)) result self.new }
     {
         for clause in clauses {
             self.put(clause.region)?;
@@ -63,7 +63,7 @@ impl<'a, R: Family> Growing<'a, R> {
     }
 
     fn put_meet(&mut self, region: R, other: R) -> Option<()>
-        ensures { Puts self.old (put_meet R.inside (so_far self.old) (R.meet region other)) result self.new }
+        ensures { Grows self.old (put_meet R.inside (so_far self.old) (R.meet region other)) result self.new }
     {
         match region.meet_with(other) {
             Some(both) => self.put(both),
@@ -74,7 +74,7 @@ impl<'a, R: Family> Growing<'a, R> {
     // Puts the meets of the region with each of the first `before`, in turn.
     fn put_meets(&mut self, region: R, before: usize) -> Option<()>
         requires { before ≤ self.old.count }
-        ensures { Puts self.old (put_meets R.inside R.meet region (take before self.old.places.now) (so_far self.old)) result self.new }
+        ensures { Grows self.old (put_meets R.inside R.meet region (take before self.old.places.now) (so_far self.old)) result self.new }
     {
         for place in 0..before {
             let other = self.places[place];
@@ -85,7 +85,7 @@ impl<'a, R: Family> Growing<'a, R> {
 
     // Puts the meets of each region with all before it, to the growing end.
     fn grow(&mut self) -> Option<()>
-        ensures { Puts self.old (grown R.inside R.meet (length self.old.places.now) 0 (so_far self.old)) result self.new }
+        ensures { Grows self.old (grown R.inside R.meet (length self.old.places.now) 0 (so_far self.old)) result self.new }
     {
         // The end moves while the list is gone through.
         let mut place = 0;

@@ -6,7 +6,7 @@ ghost use Rattle.compare.specs.Cells.{holes_of};
 ghost use Rattle.compare.specs.Written.{Written};
 ghost use Rattle.compare.specs.Rows.{precedes, ranked_some, laid, row_at, rows_found, holes_of_rows};
 
-use crate::cells::{Listed, MOST_REGIONS};
+use crate::cells::{RegionList, MOST_REGIONS};
 use family::{ActionKind, Family};
 use filter::{Sealed, insert_at};
 
@@ -70,7 +70,7 @@ pub(crate) fn lay_rows(rows: &mut [Row])
     }
 }
 
-impl<'a, R: Family> Listed<'a, R> {
+impl<'a, R: Family> RegionList<'a, R> {
     // The row of a region, where its cell holds a point and the two filters treat it unlike.
     fn row_of<A: ActionKind>(
         &self,

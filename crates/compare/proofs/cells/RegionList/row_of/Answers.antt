@@ -3,9 +3,9 @@ use Rattle.filter.specs.States.{sealed_view}
 use Rattle.compare.specs.Cells.{region_at, holes_of, occupied}
 use Rattle.compare.proofs.Fronts.{written_behind}
 use Rattle.compare.proofs.RowFound.{no_row_alike, no_row_empty, row_stands}
-use Rattle.compare.proofs.cells.Listed.row_of.Given as given
-use Rattle.compare.proofs.cells.Listed.row_of.Goals as goal
-use Rattle.compare.proofs.cells.Listed.row_of.Goals.{After-is_occupied}
+use Rattle.compare.proofs.cells.RegionList.row_of.Given as given
+use Rattle.compare.proofs.cells.RegionList.row_of.Goals as goal
+use Rattle.compare.proofs.cells.RegionList.row_of.Goals.{After-is_occupied}
 
 looked : (g : given.Over) (c : After-is_occupied g) → c.is_occupied.result ≡ occupied g.R.Family.first g.R.Family.axes g.R.Family.holds g.R.Family.shifted (region_at g.R.Family.whole c.args.self.now.regions.now) (c.args.number ∷ holes_of g.R.Family.inside g.R.Family.whole c.args.self.now.regions.now c.region-region.result)
 looked g c =

@@ -2,7 +2,7 @@ use Rattle.std.proofs.Common.{◌≡◌, ◌≤◌, [], take, drop}
 use Rattle.filter.specs.States.{sealed_view}
 use Rattle.compare.specs.Cells.{numbers}
 use Rattle.compare.specs.Rows.{ranked_from}
-use Rattle.compare.proofs.cells.Listed.find_rows.Given as goal
+use Rattle.compare.proofs.cells.RegionList.find_rows.Given as goal
 
 -- the rows so far, with those of the regions that are left, are all rows
 abbrev pub invariant-loop-number : goal.invariant-loop-number

@@ -2,7 +2,7 @@ use Rattle.std.proofs.Common.{◌≡◌, ◌-◌, false, take}
 use Rattle.std.specs.List.{list_any}
 use Rattle.compare.specs.Cells.{region_at, in_cell, reaches_by}
 use Rattle.compare.proofs.Reached.{reaches_along}
-use Rattle.compare.proofs.cells.Listed.+is_reached.Given as goal
+use Rattle.compare.proofs.cells.RegionList.+is_reached.Given as goal
 
 abbrev pub decreases-is_reached : goal.decreases-is_reached
 decreases-is_reached g l = l.left

@@ -1,7 +1,7 @@
 use Rattle.std.proofs.Common.{◌-◌, sym, ◌∙◌, arith}
 use Rattle.compare.specs.Cells.{region_at, in_cell}
 use Rattle.compare.proofs.Reached.{edge_leads, number_leads, none_leads}
-use Rattle.compare.proofs.cells.Listed.+is_reached.Goals as goal
+use Rattle.compare.proofs.cells.RegionList.+is_reached.Goals as goal
 
 pub returns-then-is_reached-2 : goal.returns-then-is_reached-2
 returns-then-is_reached-2 g t c =
