@@ -1,8 +1,8 @@
 // A region list: a region's holes, and whether its cell, the points of the region outside them, holds a point.
-ghost use Rattle.std.specs.Prelude.{◌≡◌, ◌+◌, ◌<◌, ◌≤◌, ℕ, Bool, List, length, take};
+ghost use Rattle.std.specs.Prelude.{◌≡◌, ◌+◌, ◌-◌, ◌<◌, ◌≤◌, ℕ, Bool, List, length, take};
 ghost use Rattle.std.specs.Iterator.{IsFinite, Drains, size};
 ghost use Rattle.std.specs.List.{list_any};
-ghost use Rattle.compare.specs.Cells.{region_at, strictly, above, holes_of, holding, in_cell, reaches, cornered, occupied};
+ghost use Rattle.compare.specs.Cells.{region_at, strictly, above, holes_of, holding, in_cell, reaches, reaches_by, cornered, occupied};
 
 use family::{Edge, Family};
 
@@ -122,16 +122,18 @@ impl<'a, R: Family> RegionList<'a, R> {
         if self.is_reached(cell, left - 1, axis + 1, point) {
             return true;
         }
-        // A loop: a function that calls itself through a closure gets no proof.
-        for number in cell {
-            let region = self.region(*number);
-            for edge in [Edge::Near, Edge::Far] {
-                if self.is_reached(cell, left - 1, axis + 1, region.shift(point, axis, edge)) {
-                    return true;
-                }
-            }
-        }
-        false
+        // The closure's clauses are written out: it calls the function that it stands in.
+        cell.iter().any(
+            |number| -> bool
+                requires some { 0 < left }
+                requires axes { left + axis < 256 }
+                ensures { result ≡ reaches_by R.shifted (region_at R.whole self.entry.now.regions.now) (in_cell R.holds (region_at R.whole self.entry.now.regions.now) cell.entry.now) cell.entry.now (left - 1) axis point number.now }
+            {
+                let region = self.region(*number);
+                self.is_reached(cell, left - 1, axis + 1, region.shift(point, axis, Edge::Near))
+                    || self.is_reached(cell, left - 1, axis + 1, region.shift(point, axis, Edge::Far))
+            },
+        )
     }
 
     // Whether a cell holds a point: its region's near corner is tried before all other points that shifts reach.
@@ -150,9 +152,7 @@ impl<'a, R: Family> RegionList<'a, R> {
 fn near_corner<R: Family>(region: R) -> R::Point
     ensures { result ≡ cornered R.shifted region R.axes 1 R.first }
 {
-    let mut point = R::first_point();
-    for axis in 1..=R::axis_count() {
-        point = region.shift(point, axis, Edge::Near);
-    }
-    point
+    (1..=R::axis_count()).fold(R::first_point(), |point, axis| {
+        region.shift(point, axis, Edge::Near)
+    })
 }

@@ -26,16 +26,18 @@ fn is_before(a: Row, b: Row) -> bool
     (a.left, a.right) < (b.left, b.right)
 }
 
-// The place of a row among ordered ones.
+// The place of a row: before the first that it precedes.
+// Not `partition_point`: it asks that the rows stand in order, which nothing here has to know.
 fn rank(rows: &[Row], row: Row) -> usize
-    ensures { result ≡ first_where (precedes row) rows.now }
+    ensures within { result ≤ length rows.now }
+    ensures place { result ≡ first_where (precedes row) rows.now }
 {
     rows.iter()
         .position(|other| is_before(row, *other))
         .unwrap_or(rows.len())
 }
 
-// Puts the row, where there is one, in its place among the first `count`, which are ordered.
+// Puts the row, where there is one, in its place among the first `count`.
 fn put_row(found: &mut [Row], count: usize, row: Option<Row>) -> usize
     requires { count < length found.old }
     ensures within { result ≤ count + 1 }
@@ -45,8 +47,7 @@ fn put_row(found: &mut [Row], count: usize, row: Option<Row>) -> usize
         return count;
     };
     let place = rank(&found[..count], row);
-    // There is a place: `count` is below the length.
-    let _ = insert_at(found, count, place, row);
+    insert_at(found, count, place, row).unwrap();
     count + 1
 }
 
@@ -81,8 +82,8 @@ impl<'a, R: Family> RegionList<'a, R> {
         ensures { result ≡ row_at R.whole R.first R.axes R.holds R.inside R.shifted A.alike self.now.regions.now (sealed_view A.reject left.now).clauses (sealed_view A.reject left.now).default (sealed_view A.reject right.now).clauses (sealed_view A.reject right.now).default number }
     {
         let region = self.region(number);
-        let (left, left_action) = left.decided_by(|outer| region.is_inside(outer));
-        let (right, right_action) = right.decided_by(|outer| region.is_inside(outer));
+        let (left_place, left_action) = left.decided_by(|outer| region.is_inside(outer));
+        let (right_place, right_action) = right.decided_by(|outer| region.is_inside(outer));
         if left_action.is_alike(right_action) {
             return None;
         }
@@ -92,8 +93,8 @@ impl<'a, R: Family> RegionList<'a, R> {
             return None;
         }
         Some(Row {
-            left,
-            right,
+            left: left_place,
+            right: right_place,
             region: number,
             start: 0,
             number: holes,
