@@ -6,7 +6,8 @@ ghost use Rattle.compare.specs.Cells.{region_at, strictly, above, holes_of, hold
 
 use family::{Edge, Family};
 
-// The most regions that a list has.
+// The most regions that a list has. An array of so many, with a count beside it, is a list without the heap:
+// no call for C takes any of it.
 pub(crate) const MOST_REGIONS: usize = 1024;
 
 // The regions of a comparison, in memory lent by the caller; they go by their numbers.
@@ -23,6 +24,7 @@ fn strictly_inside<R: Family>(a: R, b: R) -> bool
 }
 
 // Puts the numbers at the front of the places; answers how many they are.
+// It counts: after a `zip` with `iter_mut` nothing would be known of the places.
 fn put_front<I: Iterator<Item = usize> + Drop>(numbers: I, out: &mut [usize]) -> usize
     requires can { I.can_next numbers }
     requires ends { IsFinite (I.remaining numbers) }
@@ -102,6 +104,7 @@ impl<'a, R: Family> RegionList<'a, R> {
     }
 
     // Whether a point lies in the cell that is given by its region's number and then its holes'.
+    // One slice, no struct: the edges of the region and of the holes are tried alike.
     fn is_in_cell(&self, cell: &[usize], point: R::Point) -> bool
         ensures { result ≡ in_cell R.holds (region_at R.whole self.now.regions.now) cell.now point }
     {
@@ -130,8 +133,17 @@ impl<'a, R: Family> RegionList<'a, R> {
                 ensures { result ≡ reaches_by R.shifted (region_at R.whole self.entry.now.regions.now) (in_cell R.holds (region_at R.whole self.entry.now.regions.now) cell.entry.now) cell.entry.now (left - 1) axis point number.now }
             {
                 let region = self.region(*number);
-                self.is_reached(cell, left - 1, axis + 1, region.shift(point, axis, Edge::Near))
-                    || self.is_reached(cell, left - 1, axis + 1, region.shift(point, axis, Edge::Far))
+                self.is_reached(
+                    cell,
+                    left - 1,
+                    axis + 1,
+                    region.shift(point, axis, Edge::Near),
+                ) || self.is_reached(
+                    cell,
+                    left - 1,
+                    axis + 1,
+                    region.shift(point, axis, Edge::Far),
+                )
             },
         )
     }

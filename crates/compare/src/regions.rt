@@ -5,7 +5,8 @@ ghost use Rattle.compare.specs.Written.{Written};
 
 use family::{ActionKind, Clause, Family};
 
-// A region list that grows at the front of places lent by the caller.
+// A region list that grows at the front of places lent by the caller. A method answers `None` where no place is left:
+// an Option, since this is the one way to fail and the definition of what is written knows no other.
 #[derive(Drop)]
 struct Growing<'a, R> {
     places: &'a mut [R],
@@ -40,7 +41,7 @@ impl<'a, R: Family> Growing<'a, R> {
     fn put(&mut self, region: R) -> Option<()>
         ensures { Grows self.old (put R.inside (so_far self.old) region) result self.new }
     {
-        // A name of its own, so that what the places hold is known after they are read.
+        // Borrowed once under a name: a slice taken of `self.places` itself leaves unknown what the places hold.
         let places = &mut *self.places;
         if is_standing(&places[..self.count], region) {
             return Some(());
@@ -76,6 +77,7 @@ impl<'a, R: Family> Growing<'a, R> {
         requires { before ≤ self.old.count }
         ensures { Grows self.old (put_meets R.inside R.meet region (take before self.old.places.now) (so_far self.old)) result self.new }
     {
+        // By place: the list grows while it is gone through.
         for place in 0..before {
             let other = self.places[place];
             self.put_meet(region, other)?;
@@ -87,7 +89,7 @@ impl<'a, R: Family> Growing<'a, R> {
     fn grow(&mut self) -> Option<()>
         ensures { Grows self.old (grown R.inside R.meet (length self.old.places.now) 0 (so_far self.old)) result self.new }
     {
-        // The end moves while the list is gone through.
+        // A `while`: each turn may move the end.
         let mut place = 0;
         while place < self.count {
             let region = self.places[place];

@@ -4,9 +4,9 @@ ghost use Rattle.family.specs.Lists.{first_where};
 ghost use Rattle.filter.specs.States.{sealed_view};
 ghost use Rattle.compare.specs.Cells.{holes_of};
 ghost use Rattle.compare.specs.Written.{Written};
-ghost use Rattle.compare.specs.Rows.{precedes, ranked_some, laid, row_at, rows_found, holes_of_rows};
+ghost use Rattle.compare.specs.Rows.{precedes, ranked, laid, row_at, rows_found, holes_of_rows};
 
-use crate::cells::{RegionList, MOST_REGIONS};
+use crate::cells::{MOST_REGIONS, RegionList};
 use family::{ActionKind, Family};
 use filter::{Sealed, insert_at};
 
@@ -18,6 +18,14 @@ pub struct Row {
     pub region: usize,
     pub start: usize,
     pub number: usize,
+}
+
+// Rows in their order, at the front of lent places.
+#[derive(Drop)]
+struct Ranked<'a> {
+    rows: &'a mut [Row],
+    count: usize,
+    ghost fits: { count ≤ length rows.now },
 }
 
 fn is_before(a: Row, b: Row) -> bool
@@ -37,18 +45,29 @@ fn rank(rows: &[Row], row: Row) -> usize
         .unwrap_or(rows.len())
 }
 
-// Puts the row, where there is one, in its place among the first `count`.
-fn put_row(found: &mut [Row], count: usize, row: Option<Row>) -> usize
-    requires { count < length found.old }
-    ensures within { result ≤ count + 1 }
-    ensures rows { take result found.new ≡ ranked_some (take count found.old) row }
-{
-    let Some(row) = row else {
-        return count;
-    };
-    let place = rank(&found[..count], row);
-    insert_at(found, count, place, row).unwrap();
-    count + 1
+impl<'a> Ranked<'a> {
+    fn new(rows: &'a mut [Row]) -> Ranked<'a>
+        ensures empty { result.count ≡ 0 }
+        ensures memory { result.rows.now ≡ rows.old }
+        ensures lender { result.rows.ghost_name ≡ rows.entry.ghost_name }
+    {
+        Ranked { rows, count: 0 }
+    }
+
+    // Puts the row in its place.
+    fn put(&mut self, row: Row)
+        requires { self.old.count < length self.old.rows.now }
+        ensures count { self.new.count ≡ self.old.count + 1 }
+        ensures rows { take self.new.count self.new.rows.now ≡ ranked (take self.old.count self.old.rows.now) row }
+        ensures memory { length self.new.rows.now ≡ length self.old.rows.now }
+        ensures lender { self.new.rows.ghost_name ≡ self.old.rows.ghost_name }
+    {
+        // Borrowed once under a name, as the places of a growing list are.
+        let rows = &mut *self.rows;
+        let place = rank(&rows[..self.count], row);
+        insert_at(rows, self.count, place, row).unwrap();
+        self.count += 1;
+    }
 }
 
 // How many holes the rows have together.
@@ -112,14 +131,16 @@ impl<'a, R: Family> RegionList<'a, R> {
         ensures within { result ≤ length self.now.regions.now }
         ensures rows { take result found.new ≡ rows_found R.whole R.first R.axes R.holds R.inside R.shifted A.alike self.now.regions.now (sealed_view A.reject left.now).clauses (sealed_view A.reject left.now).default (sealed_view A.reject right.now).clauses (sealed_view A.reject right.now).default }
     {
-        let mut count = 0;
+        let mut ranked = Ranked::new(found);
         for number in 0..self.len() {
-            count = put_row(found, count, self.row_of(number, left, right));
+            if let Some(row) = self.row_of(number, left, right) {
+                ranked.put(row);
+            }
         }
-        count
+        ranked.count
     }
 
-    // Writes a region's holes from a place on, and answers the place behind them.
+    // Writes a region's holes from a place on, and answers the place behind them: there the next row's begin.
     fn copy_holes(&self, region: R, holes: &mut [usize], at: usize) -> usize
         requires { at + length (holes_of R.inside R.whole self.now.regions.now region) ≤ length holes.old }
         ensures { Written holes.old (take at holes.old ++ holes_of R.inside R.whole self.now.regions.now region) (Some result) holes.new }

@@ -1,4 +1,4 @@
-use Rattle.std.proofs.Common.{◌≡◌, ◌≤◌, [], take, drop}
+use Rattle.std.proofs.Common.{◌≡◌, ◌≤◌, [], length, take, drop}
 use Rattle.filter.specs.States.{sealed_view}
 use Rattle.compare.specs.Cells.{numbers}
 use Rattle.compare.specs.Rows.{ranked_from}
@@ -12,4 +12,7 @@ invariant-loop-number g l =
     let right = sealed_view g.A.ActionKind.reject l.right in
     let listed = l.self.regions.now in
     let more = ranked_from m.whole m.first m.axes m.holds m.inside m.shifted g.A.ActionKind.alike listed left.clauses left.default right.clauses right.default in
-    (l.count ≤ l.number) × (more (take l.count l.found) (numbers l.number (drop l.number listed)) ≡ more [] (numbers 0 listed))
+    (l.ranked.count ≤ l.number)
+    × (length l.ranked.rows.now ≡ length l.initial.ranked.rows.now)
+    × (l.ranked.rows.ghost_name ≡ l.initial.ranked.rows.ghost_name)
+    × (more (take l.ranked.count l.ranked.rows.now) (numbers l.number (drop l.number listed)) ≡ more [] (numbers 0 listed))
