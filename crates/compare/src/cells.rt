@@ -122,30 +122,28 @@ impl<'a, R: Family> RegionList<'a, R> {
         if left == 0 {
             return self.is_in_cell(cell, point);
         }
-        if self.is_reached(cell, left - 1, axis + 1, point) {
-            return true;
-        }
         // The closure's clauses are written out: it calls the function that it stands in.
-        cell.iter().any(
-            |number| -> bool
-                requires some { 0 < left }
-                requires axes { left + axis < 256 }
-                ensures { result ≡ reaches_by R.shifted (region_at R.whole self.entry.now.regions.now) (in_cell R.holds (region_at R.whole self.entry.now.regions.now) cell.entry.now) cell.entry.now (left - 1) axis point number.now }
-            {
-                let region = self.region(*number);
-                self.is_reached(
-                    cell,
-                    left - 1,
-                    axis + 1,
-                    region.shift(point, axis, Edge::Near),
-                ) || self.is_reached(
-                    cell,
-                    left - 1,
-                    axis + 1,
-                    region.shift(point, axis, Edge::Far),
-                )
-            },
-        )
+        self.is_reached(cell, left - 1, axis + 1, point)
+            || cell.iter().any(
+                |number| -> bool
+                    requires some { 0 < left }
+                    requires axes { left + axis < 256 }
+                    ensures { result ≡ reaches_by R.shifted (region_at R.whole self.entry.now.regions.now) (in_cell R.holds (region_at R.whole self.entry.now.regions.now) cell.entry.now) cell.entry.now (left - 1) axis point number.now }
+                {
+                    let region = self.region(*number);
+                    self.is_reached(
+                        cell,
+                        left - 1,
+                        axis + 1,
+                        region.shift(point, axis, Edge::Near),
+                    ) || self.is_reached(
+                        cell,
+                        left - 1,
+                        axis + 1,
+                        region.shift(point, axis, Edge::Far),
+                    )
+                },
+            )
     }
 
     // Whether a cell holds a point: its region's near corner is tried before all other points that shifts reach.

@@ -6,8 +6,8 @@ use Rattle.compare.specs.Cells.{region_at, in_cell, reaches_by}
 use Rattle.compare.proofs.Reached.{reaches_first}
 use Rattle.compare.proofs.cells.+RegionList-is_reached+fn-RegionList-is_reached-any.Goals as goal
 
-pub returns : goal.returns
-returns g t c =
+pub returns-else-is_reached : goal.returns-else-is_reached
+returns-else-is_reached g t c =
     let m = g.R.Family in
     let at = region_at m.whole c.args.self.now.regions.now in
     let cell = c.args.cell.now in
