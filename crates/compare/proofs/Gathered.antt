@@ -2,7 +2,7 @@
 use Rattle.std.proofs.Common.{◌≡◌, ℕ, Bool, List, [], ◌∷◌, length, take, Some, None, Option, subst}
 use Rattle.family.specs.declared.clauses.Clause.{Clause}
 use Rattle.compare.specs.declared.regions.Growing.{Growing}
-use Rattle.compare.specs.Growing.{so_far, Puts}
+use Rattle.compare.specs.Growing.{so_far, Grows}
 use Rattle.compare.specs.Regions.{put, put_clauses, grown, region_list}
 use Rattle.compare.specs.Written.{Written}
 use Rattle.compare.proofs.Extended.{Extends, extends_itself, extends_on, put_clauses_extends, grown_extends}
@@ -32,7 +32,7 @@ module _ {R A : Type 0} (inside : R → R → Bool) (meet : R → R → Option R
   whole_first : Extends with_whole with_meets
   whole_first = extends_on with_whole with_left with_meets (put_clauses_extends inside left with_whole) left_first
 
-  module _ (start one : Growing R) (told : Option (Unit {0})) (r : R) (is : r ≡ whole) (none : start.count ≡ 0) (lent : start.places.now ≡ old) (put-one : Puts start (put inside (so_far start) r) told one) where
+  module _ (start one : Growing R) (told : Option (Unit {0})) (r : R) (is : r ≡ whole) (none : start.count ≡ 0) (lent : start.places.now ≡ old) (put-one : Grows start (put inside (so_far start) r) told one) where
     whole_stands : Written old with_whole (counted_in told one) one.places.now
     whole_stands =
         let first : Written start.places.now (r ∷ []) (counted_in told one) one.places.now = subst (λ n. Written start.places.now (put inside (take n start.places.now) r) (counted_in told one) one.places.now) none put-one.written in
@@ -42,7 +42,7 @@ module _ {R A : Type 0} (inside : R → R → Bool) (meet : R → R → Option R
     pub over_whole : {memory : List R} {answer : Option ℕ} → told ≡ None → answer ≡ None → memory ≡ one.places.now → Written old with_meets answer memory
     over_whole e f m = puts_over old with_whole one told whole_stands whole_first e f m
 
-    module _ (two : Growing R) (told-left : Option (Unit {0})) (fine : told ≡ Some tt) (put-left : Puts one (put_clauses inside left (so_far one)) told-left two) where
+    module _ (two : Growing R) (told-left : Option (Unit {0})) (fine : told ≡ Some tt) (put-left : Grows one (put_clauses inside left (so_far one)) told-left two) where
       left_stands : Written old with_left (counted_in told-left two) two.places.now
       left_stands = puts_on old with_whole one two told-left (put_clauses inside left) (put_clauses_extends inside left) told fine whole_stands put-left
 
@@ -50,7 +50,7 @@ module _ {R A : Type 0} (inside : R → R → Bool) (meet : R → R → Option R
       pub over_left : {memory : List R} {answer : Option ℕ} → told-left ≡ None → answer ≡ None → memory ≡ two.places.now → Written old with_meets answer memory
       over_left e f m = puts_over old with_left two told-left left_stands left_first e f m
 
-      module _ (three : Growing R) (told-right : Option (Unit {0})) (fine-left : told-left ≡ Some tt) (put-right : Puts two (put_clauses inside right (so_far two)) told-right three) where
+      module _ (three : Growing R) (told-right : Option (Unit {0})) (fine-left : told-left ≡ Some tt) (put-right : Grows two (put_clauses inside right (so_far two)) told-right three) where
         both_stand : Written old with_both (counted_in told-right three) three.places.now
         both_stand = puts_on old with_left two three told-right (put_clauses inside right) (put_clauses_extends inside right) told-left fine-left left_stands put-right
 
@@ -58,7 +58,7 @@ module _ {R A : Type 0} (inside : R → R → Bool) (meet : R → R → Option R
         pub over_right : {memory : List R} {answer : Option ℕ} → told-right ≡ None → answer ≡ None → memory ≡ three.places.now → Written old with_meets answer memory
         over_right e f m = puts_over old with_both three told-right both_stand both_first e f m
 
-        module _ (four : Growing R) (told-meets : Option (Unit {0})) (fine-right : told-right ≡ Some tt) (put-all : Puts three (grown inside meet (length three.places.now) 0 (so_far three)) told-meets four) where
+        module _ (four : Growing R) (told-meets : Option (Unit {0})) (fine-right : told-right ≡ Some tt) (put-all : Grows three (grown inside meet (length three.places.now) 0 (so_far three)) told-meets four) where
           all_stand : Written old with_meets (counted_in told-meets four) four.places.now
           all_stand =
               let stands = subst (λ o. Written old with_both (counted_in o three) three.places.now) fine-right both_stand in

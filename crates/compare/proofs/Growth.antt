@@ -3,7 +3,7 @@ use Rattle.std.proofs.Common.{◌≡◌, ℕ, zero, suc, ◌+◌, ◌-◌, ◌<�
 use Rattle.std.proofs.lemmas.List.{drop_more, drop_all, take-take, get_or-take, get_or_default}
 use Rattle.std.specs.Option.{option_map}
 use Rattle.compare.specs.declared.regions.Growing.{Growing}
-use Rattle.compare.specs.Growing.{so_far, Puts}
+use Rattle.compare.specs.Growing.{so_far, Grows}
 use Rattle.compare.specs.Regions.{put_meets, grown}
 use Rattle.compare.specs.Written.{Written}
 use Rattle.compare.proofs.Extended.{Extends, extends_length, put_meets_extends, grown_extends}
@@ -40,17 +40,17 @@ module _ {R : Type 0} (inside : R → R → Bool) (meet : R → R → Option R) 
       ∙ ap (λ front. grown inside meet left (a + 1) (put_meets inside meet r front (take n places))) (take-take a n places behind)
 
 -- one turn of a list that grows: its meets of the region at a place are put, and the turns that are left lead to the whole list
-module _ {R : Type 0} (inside : R → R → Bool) (meet : R → R → Option R) (before mid after : Growing R) (place : ℕ) (sofar : Puts before (so_far mid) (Some tt) mid) (left : grown inside meet (length before.places.now - place) place (so_far mid) ≡ grown inside meet (length before.places.now) 0 (so_far before)) where
+module _ {R : Type 0} (inside : R → R → Bool) (meet : R → R → Option R) (before mid after : Growing R) (place : ℕ) (sofar : Grows before (so_far mid) (Some tt) mid) (left : grown inside meet (length before.places.now - place) place (so_far mid) ≡ grown inside meet (length before.places.now) 0 (so_far before)) where
   abbrev whole-list : List R
   whole-list = grown inside meet (length before.places.now) 0 (so_far before)
 
   -- no region is left whose meets are not put
-  pub grown_out : mid.count ≤ place → Puts before whole-list (Some tt) mid
+  pub grown_out : mid.count ≤ place → Grows before whole-list (Some tt) mid
   grown_out h =
       let ended = grown-ends inside meet (length before.places.now - place) place (so_far mid) (omega (arith, length-take mid.count mid.places.now)) in
-      subst (λ l. Puts before l (Some tt) mid) (sym ended ∙ left) sofar
+      subst (λ l. Grows before l (Some tt) mid) (sym ended ∙ left) sofar
 
-  module _ (region : R) (told : Option (Unit {0})) (low : place < mid.count) (turn : Puts mid (put_meets inside meet (get_or mid.places.now place region) (take place mid.places.now) (so_far mid)) told after) where
+  module _ (region : R) (told : Option (Unit {0})) (low : place < mid.count) (turn : Grows mid (put_meets inside meet (get_or mid.places.now place region) (take place mid.places.now) (so_far mid)) told after) where
     abbrev turned-list : List R
     turned-list = put_meets inside meet (get_or mid.places.now place region) (take place mid.places.now) (so_far mid)
 
@@ -66,13 +66,13 @@ module _ {R : Type 0} (inside : R → R → Bool) (meet : R → R → Option R) 
         let read = get_or_default mid.places.now place region _ (omega (arith, mid.fits)) in
         sym (grown-more inside meet (length before.places.now) place mid.count mid.places.now (get_or mid.places.now place region) low mid.fits some read (length before.places.now - (place + 1)) (omega arith) (length before.places.now - place) (omega arith)) ∙ left
 
-    pub grown_over : (answer : Option (Unit {0})) → told ≡ None → answer ≡ None → Puts before whole-list answer after
+    pub grown_over : (answer : Option (Unit {0})) → told ≡ None → answer ≡ None → Grows before whole-list answer after
     grown_over answer a b =
         let short = subst (λ o. Written before.places.now turned-list (option_map (λ _. after.count) o) after.places.now) a turned in
         let over = written-short before.places.now _ _ after.places.now short (grown_extends inside meet (length before.places.now - (place + 1)) (place + 1) turned-list) in
-        subst (λ o. Puts before whole-list o after) (sym b) (record { written = subst (λ l. Written before.places.now l None after.places.now) leads over; lender = lender })
+        subst (λ o. Grows before whole-list o after) (sym b) (record { written = subst (λ l. Written before.places.now l None after.places.now) leads over; lender = lender })
 
-    pub grown_on : told ≡ Some tt → (place + 1 ≤ after.count) × Puts before (so_far after) (Some tt) after × (grown inside meet (length before.places.now - (place + 1)) (place + 1) (so_far after) ≡ whole-list)
+    pub grown_on : told ≡ Some tt → (place + 1 ≤ after.count) × Grows before (so_far after) (Some tt) after × (grown inside meet (length before.places.now - (place + 1)) (place + 1) (so_far after) ≡ whole-list)
     grown_on a =
         let w = subst (λ o. Written before.places.now turned-list (option_map (λ _. after.count) o) after.places.now) a turned in
         let front = written_front before.places.now turned-list after.count after.places.now w in

@@ -1,6 +1,7 @@
 pub mod AnsweredRightly
 pub mod CellPoints
 pub mod Closed
+pub mod Cornered
 pub mod Extended
 pub mod FoundRows
 pub mod Fronts

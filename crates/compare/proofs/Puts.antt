@@ -3,7 +3,7 @@ use Rattle.std.proofs.Common.{◌≡◌, ℕ, ◌+◌, ◌<◌, Bool, false, Lis
 use Rattle.std.proofs.lemmas.Bool.{cond-false}
 use Rattle.std.specs.Option.{option_map}
 use Rattle.compare.specs.declared.regions.Growing.{Growing}
-use Rattle.compare.specs.Growing.{so_far, Puts}
+use Rattle.compare.specs.Growing.{so_far, Grows}
 use Rattle.compare.specs.Regions.{stands, put}
 use Rattle.compare.specs.Written.{Written}
 use Rattle.compare.proofs.Extended.{Extends}
@@ -16,17 +16,17 @@ module _ {R : Type 0} (inside : R → R → Bool) (old : List R) (n : ℕ) (r : 
 
 -- a fold of steps that only add at the end, over a list that grows: one step on, and a step that found no place
 module _ {R Y : Type 0} (f : List R → Y → List R) (adds : (xs : List R) (y : Y) → Extends xs (f xs y)) (ys : List Y) (before mid after : Growing R) (told : Option (Unit {0})) (i : ℕ) (y : Y) (some : i < length ys) (read : y ≡ get_or ys i y) where
-  pub puts_step : Puts before (fold f (so_far before) (take i ys)) (Some tt) mid → Puts mid (f (so_far mid) y) told after → Puts before (fold f (so_far before) (take (i + 1) ys)) told after
+  pub puts_step : Grows before (fold f (so_far before) (take i ys)) (Some tt) mid → Grows mid (f (so_far mid) y) told after → Grows before (fold f (so_far before) (take (i + 1) ys)) told after
   puts_step p q = record {
     written = written_step f adds before.places.now (so_far before) ys i y mid.count mid.places.now (option_map (λ _. after.count) told) after.places.now p.written some read q.written;
     lender = q.lender ∙ p.lender;
   }
 
-  pub puts_stop : (answer : Option (Unit {0})) → told ≡ None → answer ≡ None → Puts before (fold f (so_far before) (take i ys)) (Some tt) mid → Puts mid (f (so_far mid) y) told after → Puts before (fold f (so_far before) ys) answer after
+  pub puts_stop : (answer : Option (Unit {0})) → told ≡ None → answer ≡ None → Grows before (fold f (so_far before) (take i ys)) (Some tt) mid → Grows mid (f (so_far mid) y) told after → Grows before (fold f (so_far before) ys) answer after
   puts_stop answer a b p q =
       let w = puts_step p q in
       let short = subst (λ o. Written before.places.now (fold f (so_far before) (take (i + 1) ys)) (option_map (λ _. after.count) o) after.places.now) a w.written in
-      subst (λ o. Puts before (fold f (so_far before) ys) o after) (sym b) (record { written = written_stop f adds before.places.now (so_far before) ys (i + 1) after.places.now short; lender = w.lender })
+      subst (λ o. Grows before (fold f (so_far before) ys) o after) (sym b) (record { written = written_stop f adds before.places.now (so_far before) ys (i + 1) after.places.now short; lender = w.lender })
 
 -- how many stand in a list that grows, where it had the places
 abbrev pub counted_in : {R : Type 0} → Option (Unit {0}) → Growing R → Option ℕ
@@ -34,7 +34,7 @@ counted_in told list = option_map (λ _. list.count) told
 
 module _ {R : Type 0} (old xs : List R) (mid after : Growing R) (told : Option (Unit {0})) where
   -- a step that only adds at the end, taken on a list that stands whole
-  pub puts_on : (f : List R → List R) → ((ys : List R) → Extends ys (f ys)) → (before : Option (Unit {0})) → before ≡ Some tt → Written old xs (counted_in before mid) mid.places.now → Puts mid (f (so_far mid)) told after → Written old (f xs) (counted_in told after) after.places.now
+  pub puts_on : (f : List R → List R) → ((ys : List R) → Extends ys (f ys)) → (before : Option (Unit {0})) → before ≡ Some tt → Written old xs (counted_in before mid) mid.places.now → Grows mid (f (so_far mid)) told after → Written old (f xs) (counted_in told after) after.places.now
   puts_on f adds before e w p =
       let whole = subst (λ o. Written old xs (counted_in o mid) mid.places.now) e w in
       written_on f adds old xs mid.count mid.places.now (counted_in told after) after.places.now whole p.written

@@ -1,34 +1,13 @@
 -- Points of a cell, and those that shifts reach.
-use Rattle.std.proofs.Common.{◌≡◌, ℕ, zero, suc, ◌+◌, ◌-◌, ◌<◌, ◌≤◌, Bool, true, false, ◌||◌, List, [], ◌∷◌, length, get_or, take, drop, sym, refl, ap, ◌∙◌, arith}
-use Rattle.std.proofs.Math.Bool.{or-false}
-use Rattle.std.proofs.lemmas.List.{nil_from_length, drop_more, take_all}
-use Rattle.std.proofs.lemmas.List.Folds.{list_any_at}
+use Rattle.std.proofs.Common.{◌≡◌, ℕ, zero, suc, ◌+◌, ◌-◌, ◌<◌, Bool, true, false, ◌||◌, List, [], ◌∷◌, length, get_or, drop, sym, refl, ap, ◌∙◌, arith}
+use Rattle.std.proofs.lemmas.List.{nil_from_length, drop_more}
 use Rattle.std.proofs.lemmas.Bool.{or_left, or_right, or_from}
 use Rattle.std.specs.List.{list_any}
 use Rattle.family.specs.declared.edges.Edge.{Edge}
-use Rattle.family.specs.declared.edges.Edge.TheVariants.{Near, Far}
+use Rattle.family.specs.declared.edges.Edge.TheVariants.{Near}
 use Rattle.compare.specs.Cells.{in_cell, reaches, reaches_by, cornered, occupied}
 
 module _ {R P : Type 0} (shifted : P → ℕ → Edge → R → P) (at : ℕ → R) (test : P → Bool) (ns : List ℕ) where
-  -- the same when the first shift goes to the given edge of a region
-  abbrev pub reaches_along : ℕ → ℕ → P → R → Edge → Bool
-  reaches_along n axis p r e = reaches shifted at test ns n (axis + 1) (shifted p axis e r)
-
-  module _ (n axis : ℕ) (p : P) where
-    abbrev by : ℕ → Bool
-    by = reaches_by shifted at test ns n axis p
-
-    abbrev along : R → Edge → Bool
-    along = reaches_along n axis p
-
-    either_edge : (k : ℕ) → list_any (along (at k)) (Near ∷ Far ∷ []) ≡ by k
-    either_edge k = ap (λ b. along (at k) Near || b) (or-false (along (at k) Far))
-
-    -- the edge at place i of a region leads there
-    pub edge_leads : (k i : ℕ) (r : R) (q : P) → i < 2 → r ≡ at k → q ≡ shifted p axis (get_or (Near ∷ Far ∷ []) i Near) r → reaches shifted at test ns n (axis + 1) q ≡ true → by k ≡ true
-    edge_leads k i r q h e f t =
-        sym (either_edge k) ∙ list_any_at (along (at k)) (Near ∷ Far ∷ []) i Near h (ap (λ x. along x (get_or (Near ∷ Far ∷ []) i Near)) (sym e) ∙ ap (reaches shifted at test ns n (axis + 1)) (sym f) ∙ t)
-
   -- no shift along the first axis, or one to an edge
   reaches_by_first : (n axis : ℕ) (p : P) → 0 < n → reaches shifted at test ns n axis p ≡ (reaches shifted at test ns (n - 1) (axis + 1) p || list_any (reaches_by shifted at test ns (n - 1) axis p) ns)
   reaches_by_first zero axis p h = absurd (omega arith)
@@ -36,19 +15,9 @@ module _ {R P : Type 0} (shifted : P → ℕ → Edge → R → P) (at : ℕ →
       let back : m ≡ suc m - 1 = omega arith in
       ap (λ k. reaches shifted at test ns k (axis + 1) p || list_any (reaches_by shifted at test ns k axis p) ns) back
 
-  pub number_leads : (n axis : ℕ) (p : P) (j : ℕ) → 0 < n → j < length ns → reaches_by shifted at test ns (n - 1) axis p (get_or ns j 0) ≡ true → true ≡ reaches shifted at test ns n axis p
-  number_leads n axis p j some h t = sym (reaches_by_first n axis p some ∙ or_right _ _ (list_any_at (reaches_by shifted at test ns (n - 1) axis p) ns j 0 h t))
-
-  pub none_leads : (n axis : ℕ) (p : P) (j : ℕ) → 0 < n → length ns ≤ j → reaches shifted at test ns (n - 1) (axis + 1) p ≡ false → list_any (reaches_by shifted at test ns (n - 1) axis p) (take j ns) ≡ false → false ≡ reaches shifted at test ns n axis p
-  none_leads n axis p j some past still none =
-      sym (reaches_by_first n axis p some ∙ or_from _ _ still (ap (list_any (reaches_by shifted at test ns (n - 1) axis p)) (sym (take_all j ns past)) ∙ none))
-
--- one axis less of a near corner
-pub cornered_by_first : {R P : Type 0} (shifted : P → ℕ → Edge → R → P) (r : R) (n axis : ℕ) (p : P) → 0 < n → cornered shifted r n axis p ≡ cornered shifted r (n - 1) (axis + 1) (shifted p axis Near r)
-cornered_by_first shifted r zero axis p h = absurd (omega arith)
-cornered_by_first shifted r (suc m) axis p h =
-    let back : m ≡ suc m - 1 = omega arith in
-    ap (λ k. cornered shifted r k (axis + 1) (shifted p axis Near r)) back
+  -- where no point is reached without a shift along the first axis
+  pub reaches_first : (n axis : ℕ) (p : P) → 0 < n → reaches shifted at test ns (n - 1) (axis + 1) p ≡ false → list_any (reaches_by shifted at test ns (n - 1) axis p) ns ≡ reaches shifted at test ns n axis p
+  reaches_first n axis p some still = sym (reaches_by_first n axis p some ∙ ap (λ b. b || list_any (reaches_by shifted at test ns (n - 1) axis p) ns) still)
 
 -- the near corner of the cell's region is among the points that shifts reach
 pub corner-reached : {R P : Type 0} (shifted : P → ℕ → Edge → R → P) (at : ℕ → R) (test : P → Bool) (own : ℕ) (rest : List ℕ) (n axis : ℕ) (p : P) → test (cornered shifted (at own) n axis p) ≡ true → reaches shifted at test (own ∷ rest) n axis p ≡ true

@@ -8,6 +8,6 @@ abbrev pub so_far : {R : Type 0} → Growing R → List R
 so_far list = take list.count list.places.now
 
 -- a list was put over the one so far, in the same places
-pub record Puts {R : Type 0} (before : Growing R) (list : List R) (told : Option (Unit {0})) (after : Growing R) : Type 0 where
+pub record Grows {R : Type 0} (before : Growing R) (list : List R) (told : Option (Unit {0})) (after : Growing R) : Type 0 where
   pub written : Written before.places.now list (option_map (λ _. after.count) told) after.places.now
   pub lender : after.places.ghost_name ≡ before.places.ghost_name

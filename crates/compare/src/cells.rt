@@ -1,17 +1,18 @@
 // A region list: a region's holes, and whether its cell, the points of the region outside them, holds a point.
-ghost use Rattle.std.specs.Prelude.{◌≡◌, ◌+◌, ◌<◌, ◌≤◌, ℕ, Bool, List, length, take};
+ghost use Rattle.std.specs.Prelude.{◌≡◌, ◌+◌, ◌-◌, ◌<◌, ◌≤◌, ℕ, Bool, List, length, take};
 ghost use Rattle.std.specs.Iterator.{IsFinite, Drains, size};
 ghost use Rattle.std.specs.List.{list_any};
-ghost use Rattle.compare.specs.Cells.{region_at, strictly, above, holes_of, holding, in_cell, reaches, cornered, occupied};
+ghost use Rattle.compare.specs.Cells.{region_at, strictly, above, holes_of, holding, in_cell, reaches, reaches_by, cornered, occupied};
 
 use family::{Edge, Family};
 
-// The most regions that a list has.
+// The most regions that a list has. An array of so many, with a count beside it, is a list without the heap:
+// no call for C takes any of it.
 pub(crate) const MOST_REGIONS: usize = 1024;
 
 // The regions of a comparison, in memory lent by the caller; they go by their numbers.
 #[derive(Drop)]
-pub(crate) struct Listed<'a, R> {
+pub(crate) struct RegionList<'a, R> {
     regions: &'a [R],
     ghost few: { length regions.now ≤ 1024 },
 }
@@ -23,6 +24,7 @@ fn strictly_inside<R: Family>(a: R, b: R) -> bool
 }
 
 // Puts the numbers at the front of the places; answers how many they are.
+// It counts: after a `zip` with `iter_mut` nothing would be known of the places.
 fn put_front<I: Iterator<Item = usize> + Drop>(numbers: I, out: &mut [usize]) -> usize
     requires can { I.can_next numbers }
     requires ends { IsFinite (I.remaining numbers) }
@@ -38,12 +40,12 @@ fn put_front<I: Iterator<Item = usize> + Drop>(numbers: I, out: &mut [usize]) ->
     count
 }
 
-impl<'a, R: Family> Listed<'a, R> {
-    pub(crate) fn new(regions: &'a [R]) -> Listed<'a, R>
+impl<'a, R: Family> RegionList<'a, R> {
+    pub(crate) fn new(regions: &'a [R]) -> RegionList<'a, R>
         requires { length regions.now ≤ 1024 }
         ensures { result.regions.now ≡ regions.now }
     {
-        Listed { regions }
+        RegionList { regions }
     }
 
     pub(crate) fn len(&self) -> usize
@@ -102,6 +104,7 @@ impl<'a, R: Family> Listed<'a, R> {
     }
 
     // Whether a point lies in the cell that is given by its region's number and then its holes'.
+    // One slice, no struct: the edges of the region and of the holes are tried alike.
     fn is_in_cell(&self, cell: &[usize], point: R::Point) -> bool
         ensures { result ≡ in_cell R.holds (region_at R.whole self.now.regions.now) cell.now point }
     {
@@ -119,19 +122,28 @@ impl<'a, R: Family> Listed<'a, R> {
         if left == 0 {
             return self.is_in_cell(cell, point);
         }
-        if self.is_reached(cell, left - 1, axis + 1, point) {
-            return true;
-        }
-        // A loop: a function that calls itself through a closure gets no proof.
-        for number in cell {
-            let region = self.region(*number);
-            for edge in [Edge::Near, Edge::Far] {
-                if self.is_reached(cell, left - 1, axis + 1, region.shift(point, axis, edge)) {
-                    return true;
-                }
-            }
-        }
-        false
+        // The closure's clauses are written out: it calls the function that it stands in.
+        self.is_reached(cell, left - 1, axis + 1, point)
+            || cell.iter().any(
+                |number| -> bool
+                    requires some { 0 < left }
+                    requires axes { left + axis < 256 }
+                    ensures { result ≡ reaches_by R.shifted (region_at R.whole self.entry.now.regions.now) (in_cell R.holds (region_at R.whole self.entry.now.regions.now) cell.entry.now) cell.entry.now (left - 1) axis point number.now }
+                {
+                    let region = self.region(*number);
+                    self.is_reached(
+                        cell,
+                        left - 1,
+                        axis + 1,
+                        region.shift(point, axis, Edge::Near),
+                    ) || self.is_reached(
+                        cell,
+                        left - 1,
+                        axis + 1,
+                        region.shift(point, axis, Edge::Far),
+                    )
+                },
+            )
     }
 
     // Whether a cell holds a point: its region's near corner is tried before all other points that shifts reach.
@@ -150,9 +162,7 @@ impl<'a, R: Family> Listed<'a, R> {
 fn near_corner<R: Family>(region: R) -> R::Point
     ensures { result ≡ cornered R.shifted region R.axes 1 R.first }
 {
-    let mut point = R::first_point();
-    for axis in 1..=R::axis_count() {
-        point = region.shift(point, axis, Edge::Near);
-    }
-    point
+    (1..=R::axis_count()).fold(R::first_point(), |point, axis| {
+        region.shift(point, axis, Edge::Near)
+    })
 }

@@ -1,10 +1,12 @@
-// The comparison of two sealed filters, into lent places for regions, rows and holes.
+// The comparison of two sealed filters, into places for regions, rows and holes, all lent by the caller: no heap.
+// What a family tells is handed to the definitions one by one: a ghost member of the trait that held it all would be
+// written out again by each impl.
 ghost use Rattle.std.specs.Prelude.{◌≡◌, ◌≤◌, length};
 ghost use Rattle.filter.specs.States.{sealed_view};
 ghost use Rattle.compare.specs.Answered.{Rightly};
 ghost use Rattle.compare.specs.Compared.{unless_declined, list_for, rows_in, holes_in, report_on, outcome, regions_after};
 
-use crate::cells::{Listed, MOST_REGIONS};
+use crate::cells::{MOST_REGIONS, RegionList};
 use crate::regions::gather;
 use crate::reports::{Declined, Report};
 use crate::rows::{Row, count_holes, lay_rows};
@@ -16,7 +18,7 @@ const MOST_AXES: u8 = 4;
 
 // The rows of a region list and their holes, or why they have no places.
 fn report_on<R: Family, A: ActionKind>(
-    listed: &Listed<R>,
+    listed: &RegionList<R>,
     left: &Sealed<R, A>,
     right: &Sealed<R, A>,
     rows: &mut [Row],
@@ -26,6 +28,7 @@ fn report_on<R: Family, A: ActionKind>(
     ensures rows { rows.new ≡ unless_declined result (rows_in R.whole R.first R.axes R.holds R.inside R.meet R.shifted A.alike (sealed_view A.reject left.now) (sealed_view A.reject right.now) listed.now.regions.now) rows.old }
     ensures holes { holes.new ≡ unless_declined result (holes_in R.whole R.first R.axes R.holds R.inside R.meet R.shifted A.alike (sealed_view A.reject left.now) (sealed_view A.reject right.now) listed.now.regions.now) holes.old }
 {
+    // An array and a count, since the heap is not used here.
     let mut places = [Row::default(); MOST_REGIONS];
     let count = listed.find_rows(left, right, &mut places);
     let found = &mut places[..count];
@@ -66,5 +69,11 @@ pub fn compare<R: Family, A: ActionKind>(
     let used = regions.len().min(MOST_REGIONS);
     let places = &mut regions[..used];
     let count = gather(places, left.clauses(), right.clauses()).ok_or(Declined::NoRegionPlace)?;
-    report_on(&Listed::new(&regions[..count]), left, right, rows, holes)
+    report_on(
+        &RegionList::new(&regions[..count]),
+        left,
+        right,
+        rows,
+        holes,
+    )
 }

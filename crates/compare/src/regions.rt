@@ -5,7 +5,8 @@ ghost use Rattle.compare.specs.Written.{Written};
 
 use family::{ActionKind, Clause, Family};
 
-// A region list that grows at the front of places lent by the caller.
+// A region list that grows at the front of places lent by the caller. A method answers `None` where no place is left:
+// an Option, since this is the one way to fail and the definition of what is written knows no other.
 #[derive(Drop)]
 struct Growing<'a, R> {
     places: &'a mut [R],
@@ -26,7 +27,7 @@ fn is_standing<R: Family>(listed: &[R], region: R) -> bool
 }
 
 impl<'a, R: Family> Growing<'a, R> {
-    ghost use Rattle.compare.specs.Growing.{so_far, Puts};
+    ghost use Rattle.compare.specs.Growing.{so_far, Grows};
 
     fn new(places: &'a mut [R]) -> Growing<'a, R>
         ensures empty { result.count ≡ 0 }
@@ -38,9 +39,9 @@ impl<'a, R: Family> Growing<'a, R> {
 
     // Puts the region at the end unless it stands.
     fn put(&mut self, region: R) -> Option<()>
-        ensures { Puts self.old (put R.inside (so_far self.old) region) result self.new }
+        ensures { Grows self.old (put R.inside (so_far self.old) region) result self.new }
     {
-        // A name of its own, so that what the places hold is known after they are read.
+        // Borrowed once under a name: a slice taken of `self.places` itself leaves unknown what the places hold.
         let places = &mut *self.places;
         if is_standing(&places[..self.count], region) {
             return Some(());
@@ -54,7 +55,7 @@ impl<'a, R: Family> Growing<'a, R> {
     }
 
     fn put_clauses<A: ActionKind>(&mut self, clauses: &[Clause<R, A>]) -> Option<()>
-        ensures { Puts self.old (put_clauses R.inside clauses.now (so_far self.old)) result self.new }
+        ensures { Grows self.old (put_clauses R.inside clauses.now (so_far self.old)) result self.new }
     {
         for clause in clauses {
             self.put(clause.region)?;
@@ -63,7 +64,7 @@ impl<'a, R: Family> Growing<'a, R> {
     }
 
     fn put_meet(&mut self, region: R, other: R) -> Option<()>
-        ensures { Puts self.old (put_meet R.inside (so_far self.old) (R.meet region other)) result self.new }
+        ensures { Grows self.old (put_meet R.inside (so_far self.old) (R.meet region other)) result self.new }
     {
         match region.meet_with(other) {
             Some(both) => self.put(both),
@@ -74,8 +75,9 @@ impl<'a, R: Family> Growing<'a, R> {
     // Puts the meets of the region with each of the first `before`, in turn.
     fn put_meets(&mut self, region: R, before: usize) -> Option<()>
         requires { before ≤ self.old.count }
-        ensures { Puts self.old (put_meets R.inside R.meet region (take before self.old.places.now) (so_far self.old)) result self.new }
+        ensures { Grows self.old (put_meets R.inside R.meet region (take before self.old.places.now) (so_far self.old)) result self.new }
     {
+        // By place: the list grows while it is gone through.
         for place in 0..before {
             let other = self.places[place];
             self.put_meet(region, other)?;
@@ -85,9 +87,9 @@ impl<'a, R: Family> Growing<'a, R> {
 
     // Puts the meets of each region with all before it, to the growing end.
     fn grow(&mut self) -> Option<()>
-        ensures { Puts self.old (grown R.inside R.meet (length self.old.places.now) 0 (so_far self.old)) result self.new }
+        ensures { Grows self.old (grown R.inside R.meet (length self.old.places.now) 0 (so_far self.old)) result self.new }
     {
-        // The end moves while the list is gone through.
+        // A `while`: each turn may move the end.
         let mut place = 0;
         while place < self.count {
             let region = self.places[place];

@@ -4,9 +4,9 @@ ghost use Rattle.family.specs.Lists.{first_where};
 ghost use Rattle.filter.specs.States.{sealed_view};
 ghost use Rattle.compare.specs.Cells.{holes_of};
 ghost use Rattle.compare.specs.Written.{Written};
-ghost use Rattle.compare.specs.Rows.{precedes, ranked_some, laid, row_at, rows_found, holes_of_rows};
+ghost use Rattle.compare.specs.Rows.{precedes, ranked, laid, row_at, rows_found, holes_of_rows};
 
-use crate::cells::{Listed, MOST_REGIONS};
+use crate::cells::{MOST_REGIONS, RegionList};
 use family::{ActionKind, Family};
 use filter::{Sealed, insert_at};
 
@@ -20,34 +20,54 @@ pub struct Row {
     pub number: usize,
 }
 
+// Rows in their order, at the front of lent places.
+#[derive(Drop)]
+struct Ranked<'a> {
+    rows: &'a mut [Row],
+    count: usize,
+    ghost fits: { count ≤ length rows.now },
+}
+
 fn is_before(a: Row, b: Row) -> bool
     ensures { result ≡ precedes a b }
 {
     (a.left, a.right) < (b.left, b.right)
 }
 
-// The place of a row among ordered ones.
+// The place of a row: before the first that it precedes.
+// Not `partition_point`: it asks that the rows stand in order, which nothing here has to know.
 fn rank(rows: &[Row], row: Row) -> usize
-    ensures { result ≡ first_where (precedes row) rows.now }
+    ensures within { result ≤ length rows.now }
+    ensures place { result ≡ first_where (precedes row) rows.now }
 {
     rows.iter()
         .position(|other| is_before(row, *other))
         .unwrap_or(rows.len())
 }
 
-// Puts the row, where there is one, in its place among the first `count`, which are ordered.
-fn put_row(found: &mut [Row], count: usize, row: Option<Row>) -> usize
-    requires { count < length found.old }
-    ensures within { result ≤ count + 1 }
-    ensures rows { take result found.new ≡ ranked_some (take count found.old) row }
-{
-    let Some(row) = row else {
-        return count;
-    };
-    let place = rank(&found[..count], row);
-    // There is a place: `count` is below the length.
-    let _ = insert_at(found, count, place, row);
-    count + 1
+impl<'a> Ranked<'a> {
+    fn new(rows: &'a mut [Row]) -> Ranked<'a>
+        ensures empty { result.count ≡ 0 }
+        ensures memory { result.rows.now ≡ rows.old }
+        ensures lender { result.rows.ghost_name ≡ rows.entry.ghost_name }
+    {
+        Ranked { rows, count: 0 }
+    }
+
+    // Puts the row in its place.
+    fn put(&mut self, row: Row)
+        requires { self.old.count < length self.old.rows.now }
+        ensures count { self.new.count ≡ self.old.count + 1 }
+        ensures rows { take self.new.count self.new.rows.now ≡ ranked (take self.old.count self.old.rows.now) row }
+        ensures memory { length self.new.rows.now ≡ length self.old.rows.now }
+        ensures lender { self.new.rows.ghost_name ≡ self.old.rows.ghost_name }
+    {
+        // Borrowed once under a name, as the places of a growing list are.
+        let rows = &mut *self.rows;
+        let place = rank(&rows[..self.count], row);
+        insert_at(rows, self.count, place, row).unwrap();
+        self.count += 1;
+    }
 }
 
 // How many holes the rows have together.
@@ -70,7 +90,7 @@ pub(crate) fn lay_rows(rows: &mut [Row])
     }
 }
 
-impl<'a, R: Family> Listed<'a, R> {
+impl<'a, R: Family> RegionList<'a, R> {
     // The row of a region, where its cell holds a point and the two filters treat it unlike.
     fn row_of<A: ActionKind>(
         &self,
@@ -81,8 +101,8 @@ impl<'a, R: Family> Listed<'a, R> {
         ensures { result ≡ row_at R.whole R.first R.axes R.holds R.inside R.shifted A.alike self.now.regions.now (sealed_view A.reject left.now).clauses (sealed_view A.reject left.now).default (sealed_view A.reject right.now).clauses (sealed_view A.reject right.now).default number }
     {
         let region = self.region(number);
-        let (left, left_action) = left.decided_by(|outer| region.is_inside(outer));
-        let (right, right_action) = right.decided_by(|outer| region.is_inside(outer));
+        let (left_place, left_action) = left.decided_by(|outer| region.is_inside(outer));
+        let (right_place, right_action) = right.decided_by(|outer| region.is_inside(outer));
         if left_action.is_alike(right_action) {
             return None;
         }
@@ -92,8 +112,8 @@ impl<'a, R: Family> Listed<'a, R> {
             return None;
         }
         Some(Row {
-            left,
-            right,
+            left: left_place,
+            right: right_place,
             region: number,
             start: 0,
             number: holes,
@@ -111,14 +131,16 @@ impl<'a, R: Family> Listed<'a, R> {
         ensures within { result ≤ length self.now.regions.now }
         ensures rows { take result found.new ≡ rows_found R.whole R.first R.axes R.holds R.inside R.shifted A.alike self.now.regions.now (sealed_view A.reject left.now).clauses (sealed_view A.reject left.now).default (sealed_view A.reject right.now).clauses (sealed_view A.reject right.now).default }
     {
-        let mut count = 0;
+        let mut ranked = Ranked::new(found);
         for number in 0..self.len() {
-            count = put_row(found, count, self.row_of(number, left, right));
+            if let Some(row) = self.row_of(number, left, right) {
+                ranked.put(row);
+            }
         }
-        count
+        ranked.count
     }
 
-    // Writes a region's holes from a place on, and answers the place behind them.
+    // Writes a region's holes from a place on, and answers the place behind them: there the next row's begin.
     fn copy_holes(&self, region: R, holes: &mut [usize], at: usize) -> usize
         requires { at + length (holes_of R.inside R.whole self.now.regions.now region) ≤ length holes.old }
         ensures { Written holes.old (take at holes.old ++ holes_of R.inside R.whole self.now.regions.now region) (Some result) holes.new }

@@ -1,16 +1,15 @@
-use Rattle.std.proofs.Common.{◌≡◌, ◌+◌, ◌-◌, ◌<◌, sym, ap, ◌∙◌, arith}
+use Rattle.std.proofs.Common.{◌∙◌, ap, fold, rules, tests}
+use Rattle.std.specs.List.{range_with_len}
+use Rattle.std.proofs.lemmas.Iterator.Consumers.{fold_from_yields_List}
 use Rattle.family.specs.declared.edges.Edge.TheVariants.{Near}
-use Rattle.compare.specs.Cells.{cornered}
-use Rattle.compare.proofs.Reached.{cornered_by_first}
+use Rattle.compare.proofs.Cornered.{cornered_folded, all_axes}
 use Rattle.compare.proofs.cells.near_corner.Goals as goal
 
-pub loop-axis-preserved : goal.loop-axis-preserved
-loop-axis-preserved g c =
+pub returns : goal.returns
+returns g c =
     let m = g.R.Family in
-    let i = c.loop-axis.axis in
-    let some : 0 < m.axes + 1 - i = omega (arith, c.loop-axis-test.true, c.axis_count-axis-end.ensures) in
-    let less : m.axes + 1 - i - 1 ≡ m.axes + 1 - (i + 1) = omega arith in
-    ap (cornered m.shifted c.args.region (m.axes + 1 - (i + 1)) (i + 1)) c.shift-point.ensures
-    ∙ ap (λ n. cornered m.shifted c.args.region n (i + 1) (m.shifted c.loop-axis.point i Near c.args.region)) (sym less)
-    ∙ sym (cornered_by_first m.shifted c.args.region (m.axes + 1 - i) i c.loop-axis.point some)
-    ∙ c.loop-axis.invariant
+    fold_from_yields_List _ (λ p axis. m.shifted p axis Near c.args.region) c.first_point.result c.fold.result c.fold.ensures.ran
+    (all_axes c.new.result m.axes c.new.ensures.start (c.new.ensures.end ∙ c.axis_count.ensures) c.new.ensures.exhausted)
+    (λ a x b q k. search (rules, tests))
+    ∙ ap (λ p. fold (λ q axis. m.shifted q axis Near c.args.region) p (range_with_len 1 m.axes)) c.first_point.ensures
+    ∙ cornered_folded m.shifted c.args.region m.axes 1 m.first

@@ -1,5 +1,5 @@
 use Rattle.std.proofs.Common.{◌≡◌, ◌-◌, ◌≤◌, length, Some}
-use Rattle.compare.specs.Growing.{so_far, Puts}
+use Rattle.compare.specs.Growing.{so_far, Grows}
 use Rattle.compare.specs.Regions.{grown}
 use Rattle.compare.proofs.regions.Growing.grow.Given as goal
 
@@ -9,7 +9,7 @@ invariant-loop-place g l =
     let m = g.R.Family in
     let old = l.fn.self in
     (l.place ≤ l.self.count)
-    × Puts old (so_far l.self) (Some tt) l.self
+    × Grows old (so_far l.self) (Some tt) l.self
     × (grown m.inside m.meet (length old.places.now - l.place) l.place (so_far l.self) ≡ grown m.inside m.meet (length old.places.now) 0 (so_far old))
 
 abbrev pub decreases-loop-place : goal.decreases-loop-place

@@ -7,7 +7,7 @@ use Rattle.compare.specs.Written.{Written}
 use Rattle.compare.proofs.Extended.{extends_length, folded_front, add_holes_extends}
 use Rattle.compare.proofs.Fronts.{written_step}
 use Rattle.compare.proofs.LaidOut.{no_row}
-use Rattle.compare.proofs.cells.Listed.write_holes.Goals as goal
+use Rattle.compare.proofs.cells.RegionList.write_holes.Goals as goal
 
 pub copy_holes-at-requires : goal.copy_holes-at-requires
 copy_holes-at-requires g c =

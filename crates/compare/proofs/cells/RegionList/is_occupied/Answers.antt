@@ -1,7 +1,7 @@
 use Rattle.std.proofs.Common.{◌≡◌, ◌<◌, length, sym, ap, ◌∙◌, rules}
 use Rattle.compare.specs.Cells.{region_at, in_cell, cornered}
 use Rattle.compare.proofs.Reached.{occupied_at_corner, occupied_nowhere}
-use Rattle.compare.proofs.cells.Listed.is_occupied.Goals as goal
+use Rattle.compare.proofs.cells.RegionList.is_occupied.Goals as goal
 
 pub returns-in_default : goal.returns-in_default
 returns-in_default g c =

@@ -4,7 +4,7 @@ use Rattle.std.proofs.lemmas.Iterator.Consumers.{YieldsList-from_copied, YieldsL
 use Rattle.std.proofs.lemmas.List.{map-id}
 use Rattle.compare.specs.Cells.{region_at, below, topmost, outermost, nested}
 use Rattle.compare.proofs.Numbered.{counted}
-use Rattle.compare.proofs.cells.Listed.write_holes_of.Goals as goal
+use Rattle.compare.proofs.cells.RegionList.write_holes_of.Goals as goal
 
 pub returns-clause-found : goal.returns-clause-found
 returns-clause-found g c =

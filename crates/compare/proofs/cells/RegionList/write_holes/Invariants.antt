@@ -1,7 +1,7 @@
 use Rattle.std.proofs.Common.{take, Some}
 use Rattle.compare.specs.Rows.{holes_of_rows}
 use Rattle.compare.specs.Written.{Written}
-use Rattle.compare.proofs.cells.Listed.write_holes.Given as goal
+use Rattle.compare.proofs.cells.RegionList.write_holes.Given as goal
 
 abbrev pub invariant-loop-row : goal.invariant-loop-row
 invariant-loop-row g l =
