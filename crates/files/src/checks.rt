@@ -5,6 +5,7 @@ ghost use Rattle.filter.specs.Views.{load_answer};
 ghost use Rattle.files.specs.Checked.{checked};
 
 use crate::codes::{PACKETS, PREFIX_RANGES, ROUTES_WITH_ORIGIN};
+use crate::comparing::CLAUSE_PLACES;
 use family::Clause;
 use fields::Fault;
 use filter::Draft;
@@ -31,9 +32,17 @@ pub fn check(file: &[u8]) -> Result<(), Fault>
         [ROUTES_WITH_ORIGIN, ..] => load::<RouteWithOrigin, RouteAction>(
             ROUTES_WITH_ORIGIN,
             file,
-            &mut [Clause::default(); 65],
+            &mut [Clause::default(); CLAUSE_PLACES],
         ),
-        [PACKETS, ..] => load::<Packet, Verdict>(PACKETS, file, &mut [Clause::default(); 65]),
-        _ => load::<PrefixRange, RouteAction>(PREFIX_RANGES, file, &mut [Clause::default(); 65]),
+        [PACKETS, ..] => load::<Packet, Verdict>(
+            PACKETS,
+            file,
+            &mut [Clause::default(); CLAUSE_PLACES],
+        ),
+        _ => load::<PrefixRange, RouteAction>(
+            PREFIX_RANGES,
+            file,
+            &mut [Clause::default(); CLAUSE_PLACES],
+        ),
     }
 }

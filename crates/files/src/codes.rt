@@ -1,4 +1,4 @@
-// The family codes that files begin with.
+// The family codes that files begin with. A rule of the format: a code is a number in a file's first byte.
 
 // Prefix ranges, with route actions.
 pub(crate) const PREFIX_RANGES: u8 = 1;

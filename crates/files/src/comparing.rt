@@ -13,10 +13,19 @@ use filter::{Draft, Sealed};
 use listing::Listing;
 use supplied::{PrefixRange, RouteAction};
 
-// The filter of a file, in lent places for 64 clauses and a default.
+// The places that the longest file needs: 64 for clauses, and one for the default.
+pub(crate) const CLAUSE_PLACES: usize = 65;
+
+const REGION_PLACES: usize = 1024;
+
+const ROW_PLACES: usize = 1024;
+
+const HOLE_PLACES: usize = 4096;
+
+// The filter of a file, in lent places.
 fn read_filter<'a>(
     file: &[u8],
-    places: &'a mut [Clause<PrefixRange, RouteAction>; 65],
+    places: &'a mut [Clause<PrefixRange, RouteAction>; CLAUSE_PLACES],
 ) -> Result<Sealed<'a, PrefixRange, RouteAction>, Fault>
     ensures { MatchResult result (λ filter. ReadAs file.now (sealed_view rejected filter)) (λ fault. file_read file.now ≡ Err fault) }
 {
@@ -25,20 +34,20 @@ fn read_filter<'a>(
     Ok(draft.seal())
 }
 
-// The places for the regions, rows and holes of a comparison.
+// The places for the regions, rows and holes of a comparison: arrays, since the calls for C have no heap.
 #[derive(Drop)]
 pub(crate) struct Memory {
-    regions: [PrefixRange; 1024],
-    rows: [Row; 1024],
-    holes: [usize; 4096],
+    regions: [PrefixRange; REGION_PLACES],
+    rows: [Row; ROW_PLACES],
+    holes: [usize; HOLE_PLACES],
 }
 
 impl Memory {
     pub(crate) fn new() -> Memory {
         Memory {
-            regions: [PrefixRange::whole_region(); 1024],
-            rows: [Row::default(); 1024],
-            holes: [0; 4096],
+            regions: [PrefixRange::whole_region(); REGION_PLACES],
+            rows: [Row::default(); ROW_PLACES],
+            holes: [0; HOLE_PLACES],
         }
     }
 
@@ -66,7 +75,8 @@ impl Memory {
         })
     }
 
-    // Reads the left file, then the right one, and compares them.
+    // Reads the left file, then the right one, and compares them. Through all calls the two files are two
+    // parameters, as the call for C takes them.
     pub(crate) fn compare_files(
         &mut self,
         left: &[u8],
@@ -74,8 +84,8 @@ impl Memory {
     ) -> Result<Listing<'_>, Refusal>
         ensures { text_found result ≡ files_compared left.now right.now }
     {
-        let mut left_places = [Clause::default(); 65];
-        let mut right_places = [Clause::default(); 65];
+        let mut left_places = [Clause::default(); CLAUSE_PLACES];
+        let mut right_places = [Clause::default(); CLAUSE_PLACES];
         let left = read_filter(left, &mut left_places).map_err(Refusal::Left)?;
         let right = read_filter(right, &mut right_places).map_err(Refusal::Right)?;
         self.compare_filters(&left, &right)

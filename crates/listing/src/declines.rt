@@ -8,6 +8,7 @@ use buffers::{Output, Text};
 
 // What was declined: the load of a side, with the refusal's number and the place of the fault, or the comparison.
 // By number, and not by the fault: the line of any number can be printed, also of one that no fault of these crates has.
+// The two sides are two cases, as they are of declined_text.
 #[derive(Clone, Copy)]
 pub enum Declined {
     Left { number: u8, place: usize },

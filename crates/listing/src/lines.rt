@@ -21,7 +21,7 @@ fn put_place(out: &mut Output, clauses: usize, place: usize)
 }
 
 impl Listing<'_> {
-    // Nothing behind the bytes before it where the list has no region of this number.
+    // Puts the bytes, then the region of this number; nothing behind the bytes where the list has no such region.
     fn put_numbered(&self, out: &mut Output, before: &[u8], number: usize)
         ensures { Puts out.old (before.now ++ numbered_text self.now.regions.now number) out.new }
     {

@@ -1,4 +1,5 @@
-// A number in decimal.
+// A number in decimal. Digit by digit, and not by its Display: that promises the text where it answers Ok, and not that it
+// answers Ok, and here the text must be put.
 ghost use Rattle.std.specs.Prelude.{decimal};
 ghost use Rattle.buffers.specs.Outputs.{Puts};
 

@@ -25,9 +25,9 @@ loop-row-preserved c =
     ∙ ap (λ t. head ++ t) (joined-take text s.rows.now i past _ c.loop-row-test.true refl))
     (c.loop-row.invariant then c.put_row.ensures)
 
-pub returns : goal.returns
+pub returns-clause-bytes : goal.returns-clause-bytes
 unfolding listing
-returns c =
+returns-clause-bytes c =
     let s = c.args.self.now in
     let head = codes "rows " ++ decimal (length s.rows.now) ++ codes "\n" in
     let text = row_text s.regions.now s.holes.now s.left_clauses s.right_clauses in
