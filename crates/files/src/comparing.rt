@@ -7,7 +7,7 @@ ghost use Rattle.files.specs.Compared.{file_read, ReadAs, text_found, filters_co
 use crate::codes::PREFIX_RANGES;
 use crate::refusals::Refusal;
 use compare::{Row, compare};
-use family::{Clause, Family};
+use family::Clause;
 use fields::Fault;
 use filter::{Draft, Sealed};
 use listing::Listing;
@@ -16,11 +16,11 @@ use supplied::{PrefixRange, RouteAction};
 // The places that the longest file needs: 64 for clauses, and one for the default.
 pub(crate) const CLAUSE_PLACES: usize = 65;
 
-const REGION_PLACES: usize = 1024;
+pub(crate) const REGION_PLACES: usize = 1024;
 
-const ROW_PLACES: usize = 1024;
+pub(crate) const ROW_PLACES: usize = 1024;
 
-const HOLE_PLACES: usize = 4096;
+pub(crate) const HOLE_PLACES: usize = 4096;
 
 // The filter of a file, in lent places.
 fn read_filter<'a>(
@@ -35,22 +35,15 @@ fn read_filter<'a>(
 }
 
 // The places for the regions, rows and holes of a comparison: arrays, since the calls for C have no heap.
+// Who compares writes the literal: what a function answers is copied, and so needs the stack twice.
 #[derive(Drop)]
 pub(crate) struct Memory {
-    regions: [PrefixRange; REGION_PLACES],
-    rows: [Row; ROW_PLACES],
-    holes: [usize; HOLE_PLACES],
+    pub regions: [PrefixRange; REGION_PLACES],
+    pub rows: [Row; ROW_PLACES],
+    pub holes: [usize; HOLE_PLACES],
 }
 
 impl Memory {
-    pub(crate) fn new() -> Memory {
-        Memory {
-            regions: [PrefixRange::whole_region(); REGION_PLACES],
-            rows: [Row::default(); ROW_PLACES],
-            holes: [0; HOLE_PLACES],
-        }
-    }
-
     fn compare_filters(
         &mut self,
         left: &Sealed<PrefixRange, RouteAction>,

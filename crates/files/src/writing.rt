@@ -4,9 +4,12 @@ ghost use Rattle.files.specs.Compared.{files_compared};
 ghost use Rattle.files.specs.Meant.{Meant};
 ghost use Rattle.files.specs.Written.{written_answer, buffer_after};
 
-use crate::comparing::Memory;
+use crate::comparing::{HOLE_PLACES, Memory, REGION_PLACES, ROW_PLACES};
 use crate::refusals::Unwritten;
 use buffers::write_text;
+use compare::Row;
+use family::Family;
+use supplied::PrefixRange;
 
 // No listing that is written has more bytes.
 const LONGEST: usize = 65_535;
@@ -18,7 +21,11 @@ pub fn write_compared(left: &[u8], right: &[u8], out: &mut [u8]) -> Result<usize
     ensures bytes { out.new ≡ buffer_after out.old (files_compared left.now right.now) }
     ensures meaning { Meant left.now right.now (files_compared left.now right.now) }
 {
-    let mut memory = Memory::new();
+    let mut memory = Memory {
+        regions: [PrefixRange::whole_region(); REGION_PLACES],
+        rows: [Row::default(); ROW_PLACES],
+        holes: [0; HOLE_PLACES],
+    };
     let listing = memory.compare_files(left, right)?;
     let room = out.len().min(LONGEST);
     let written = write_text(&listing, &mut out[..room]);
