@@ -29,8 +29,7 @@ impl Draws {
 
     // One of the items; none only where there is none.
     pub fn pick<T: Copy>(&mut self, items: &[T]) -> Option<T> {
-        let (item, _) = last_digit(self.next(), items)?;
-        Some(item)
+        items.get(self.next().checked_rem(items.len())?).copied()
     }
 }
 
@@ -41,15 +40,20 @@ pub fn last_digit<T: Copy>(number: usize, values: &[T]) -> Option<(T, usize)> {
     Some((value, number / values.len()))
 }
 
-// A region, an action, or a clause of both, as it is drawn; none only where the values drawn make none.
+// A region or a clause, as it is drawn; none only where the values drawn make none.
 pub trait Draw: Copy {
     fn draw(draws: &mut Draws) -> Option<Self>;
 }
 
-impl<R: Draw, A: Draw> Draw for Clause<R, A> {
+// An action, as it is drawn: all values make one.
+pub trait DrawAction: Copy {
+    fn draw_action(draws: &mut Draws) -> Self;
+}
+
+impl<R: Draw, A: DrawAction> Draw for Clause<R, A> {
     fn draw(draws: &mut Draws) -> Option<Clause<R, A>> {
         let region = R::draw(draws)?;
-        let action = A::draw(draws)?;
+        let action = A::draw_action(draws);
         Some(Clause { region, action })
     }
 }

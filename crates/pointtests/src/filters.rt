@@ -1,5 +1,5 @@
 // Filters as they are drawn, and how they are put into drafts.
-use crate::draws::{Draw, Draws};
+use crate::draws::{Draw, DrawAction, Draws};
 use family::{ActionKind, Clause, Family};
 use filter::{Draft, EditError, Sealed};
 use std::alloc::Global;
@@ -13,11 +13,11 @@ pub struct Drawn<R, A> {
 }
 
 // Up to four clauses, and sometimes six: six are drawn, and as many of them are taken.
-pub fn draw_clauses<R: Draw, A: Draw>(
-    heap: Global,
+pub fn draw_clauses<R: Draw, A: DrawAction>(
+    alloc: Global,
     draws: &mut Draws,
 ) -> Result<Vec<Clause<R, A>>, Fail> {
-    let mut clauses = Vec::new(heap);
+    let mut clauses = Vec::new(alloc);
     for _ in 0..6 {
         clauses.push(Clause::draw(draws).ok_or("no clause")?)?;
     }
@@ -26,13 +26,13 @@ pub fn draw_clauses<R: Draw, A: Draw>(
 }
 
 // The clauses of the other side: one time in four the same, one time in four with one of them changed, else drawn anew.
-pub fn draw_others<R: Draw, A: Draw>(
-    heap: Global,
+pub fn draw_others<R: Draw, A: DrawAction>(
+    alloc: Global,
     draws: &mut Draws,
     clauses: &Vec<Clause<R, A>>,
 ) -> Result<Vec<Clause<R, A>>, Fail> {
     if draws.once_in(2) {
-        return draw_clauses(heap, draws);
+        return draw_clauses(alloc, draws);
     }
     let mut others = clauses.clone()?;
     if draws.once_in(2) {
@@ -45,15 +45,17 @@ pub fn draw_others<R: Draw, A: Draw>(
 }
 
 // One time in two the other side's default, else drawn anew.
-pub fn draw_default<A: Draw>(draws: &mut Draws, other: A) -> Option<A> {
+pub fn draw_default<A: DrawAction>(draws: &mut Draws, other: A) -> A {
     if draws.once_in(2) {
-        return Some(other);
+        other
+    } else {
+        A::draw_action(draws)
     }
-    A::draw(draws)
 }
 
 impl<R: Family, A: ActionKind> Drawn<R, A> {
-    // The place that decides a point, and its action: a search of the tests' own, which the product's is judged by.
+    // The place that decides a point, and its action: the tests' own search, which must not be the product's, since that is
+    // judged by it.
     pub fn decide(&self, point: R::Point) -> (usize, A) {
         self.clauses
             .iter()

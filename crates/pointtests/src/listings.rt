@@ -15,13 +15,13 @@ pub struct Listing<R> {
 impl<R: Family> Listing<R> {
     // What a comparison writes in 256 places for regions, 256 for rows and 1,024 for holes; none where it is declined.
     pub fn of<A: ActionKind>(
-        heap: Global,
+        alloc: Global,
         left: &Sealed<R, A>,
         right: &Sealed<R, A>,
     ) -> Result<Option<Listing<R>>, AllocError> {
-        let mut regions = vec![in heap; R::whole_region(); 256]?;
-        let mut rows = vec![in heap; Row::default(); 256]?;
-        let mut holes = vec![in heap; 0; 1024]?;
+        let mut regions = vec![in alloc; R::whole_region(); 256]?;
+        let mut rows = vec![in alloc; Row::default(); 256]?;
+        let mut holes = vec![in alloc; 0; 1024]?;
         let Ok(report) = compare(left, right, &mut regions, &mut rows, &mut holes) else {
             return Ok(None);
         };
@@ -35,7 +35,8 @@ impl<R: Family> Listing<R> {
         }))
     }
 
-    // Whether the row's region holds the point and none of its holes does.
+    // Whether the row's region holds the point and none of its holes does: the tests' own search, which must not be the
+    // product's.
     // A hole that is no region's number counts as one that does.
     pub fn is_in(&self, row: &Row, point: R::Point) -> bool {
         let end = row.start.saturating_add(row.number);

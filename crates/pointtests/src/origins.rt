@@ -1,5 +1,5 @@
 // Filters of routes with origin: prefix ranges with spans of AS numbers, and route actions.
-use crate::draws::{Draw, Draws, Grid, last_digit};
+use crate::draws::{Draw, DrawAction, Draws, Grid, last_digit};
 use crate::packets::draw_span;
 use crate::trials::trials;
 use std::test::Fail;
@@ -82,15 +82,15 @@ fn draw_number(draws: &mut Draws) -> Option<u32> {
     draws.pick(&[0, 100])
 }
 
-impl Draw for RouteAction {
-    fn draw(draws: &mut Draws) -> Option<RouteAction> {
+impl DrawAction for RouteAction {
+    fn draw_action(draws: &mut Draws) -> RouteAction {
         if draws.once_in(2) {
-            return Some(RouteAction::Reject);
+            return RouteAction::Reject;
         }
-        Some(RouteAction::Accept {
+        RouteAction::Accept {
             preference: draw_number(draws),
             med: draw_number(draws),
-        })
+        }
     }
 }
 

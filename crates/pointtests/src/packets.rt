@@ -1,5 +1,5 @@
 // Packet filters: spans of addresses, protocols and ports, and verdicts.
-use crate::draws::{Draw, Draws, Grid, last_digit};
+use crate::draws::{Draw, DrawAction, Draws, Grid, last_digit};
 use crate::trials::trials;
 use family::Family;
 use std::test::Fail;
@@ -64,9 +64,13 @@ impl Grid for Packet {
     }
 }
 
-impl Draw for Verdict {
-    fn draw(draws: &mut Draws) -> Option<Verdict> {
-        draws.pick(&[Verdict::Accept, Verdict::Reject])
+impl DrawAction for Verdict {
+    fn draw_action(draws: &mut Draws) -> Verdict {
+        if draws.once_in(2) {
+            Verdict::Accept
+        } else {
+            Verdict::Reject
+        }
     }
 }
 

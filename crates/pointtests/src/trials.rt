@@ -1,5 +1,5 @@
 // Drawn pairs of filters, each compared and checked at every point of the grid.
-use crate::draws::{Draw, Draws, Grid};
+use crate::draws::{DrawAction, Draws, Grid};
 use crate::filters::{Drawn, draw_clauses, draw_default, draw_others};
 use crate::listings::Listing;
 use family::{ActionKind, Clause};
@@ -23,13 +23,13 @@ struct Trial<R, A> {
     right: Drawn<R, A>,
 }
 
-impl<R: Grid, A: ActionKind + Draw> Trial<R, A> {
-    fn draw(heap: Global, seed: u64) -> Result<Trial<R, A>, Fail> {
+impl<R: Grid, A: ActionKind + DrawAction> Trial<R, A> {
+    fn draw(alloc: Global, seed: u64) -> Result<Trial<R, A>, Fail> {
         let mut draws = Draws::new(seed);
-        let lefts = draw_clauses(heap, &mut draws)?;
-        let rights = draw_others(heap, &mut draws, &lefts)?;
-        let left_default = A::draw(&mut draws).ok_or("no action")?;
-        let right_default = draw_default(&mut draws, left_default).ok_or("no action")?;
+        let lefts = draw_clauses(alloc, &mut draws)?;
+        let rights = draw_others(alloc, &mut draws, &lefts)?;
+        let left_default = A::draw_action(&mut draws);
+        let right_default = draw_default(&mut draws, left_default);
         Ok(Trial {
             seed,
             left: Drawn {
@@ -44,12 +44,12 @@ impl<R: Grid, A: ActionKind + Draw> Trial<R, A> {
     }
 
     // Seals the two filters, each in places for six clauses and the default, and compares them; none where that is declined.
-    fn compare(&self, heap: Global) -> Result<Option<Listing<R>>, Fail> {
-        let mut left_places = vec![in heap; Clause::default(); 7]?;
-        let mut right_places = vec![in heap; Clause::default(); 7]?;
+    fn compare(&self, alloc: Global) -> Result<Option<Listing<R>>, Fail> {
+        let mut left_places = vec![in alloc; Clause::default(); 7]?;
+        let mut right_places = vec![in alloc; Clause::default(); 7]?;
         let left = self.left.seal_in(&mut left_places)?;
         let right = self.right.seal_in(&mut right_places)?;
-        Ok(Listing::of(heap, &left, &right)?)
+        Ok(Listing::of(alloc, &left, &right)?)
     }
 
     // Whether the point is treated unlike: then it lies in one row, which names the two places that decide it,
@@ -70,11 +70,11 @@ impl<R: Grid, A: ActionKind + Draw> Trial<R, A> {
 
     // Every point of the grid is checked; answers whether one is treated unlike.
     fn check_grid(&self, rt: &impl Abort, listing: &Listing<R>) -> bool {
-        let mut unlike = false;
-        for point in (0..R::LENGTH).filter_map(|number| R::grid_point(number)) {
-            unlike |= self.check_point(rt, listing, point);
-        }
-        unlike
+        (0..R::LENGTH)
+            .filter_map(|number| R::grid_point(number))
+            .fold(false, |unlike, point| {
+                self.check_point(rt, listing, point) || unlike
+            })
     }
 
     // What a comparison wrote is what the two filters say, point by point.
@@ -97,7 +97,7 @@ impl<R: Grid, A: ActionKind + Draw> Trial<R, A> {
 }
 
 // So many trials, each with its seed.
-pub fn trials<R: Grid, A: ActionKind + Draw>(
+pub fn trials<R: Grid, A: ActionKind + DrawAction>(
     rt: &(impl Abort + AllocGlobal),
     seeds: u64,
 ) -> Result<Tally, Fail> {

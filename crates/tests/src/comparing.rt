@@ -105,8 +105,14 @@ fn packets_over_three_axes(rt: HostRuntime) -> Result<(), Fail> {
         &mut holes,
     )?;
     // The block's own cell is empty; only the one packet is treated unlike: by the default, and by the third clause.
-    assert!(rt; report.regions == 5 && report.rows == 1 && report.holes == 0);
-    assert!(rt; rows[0].left == 1 && rows[0].right == 2 && rows[0].region == 4);
+    let expected = Report {
+        regions: 5,
+        rows: 1,
+        holes: 0,
+    };
+    assert_eq!(rt; report, expected);
+    let [row, ..] = rows;
+    assert_eq!(rt; (row.left, row.right, row.region), (1, 2, 4));
     Ok(())
 }
 

@@ -1,5 +1,5 @@
 // Edits of a draft at the edges of its memory, and the first match once it is sealed.
-use family::{ActionKind, Clause};
+use family::Clause;
 use filter::{Draft, EditError, Sealed};
 use std::process::Abort;
 use std::test::Fail;
@@ -29,9 +29,8 @@ fn decided(
     place: usize,
     action: RouteAction,
 ) -> Result<(), Fail> {
-    let (at, told) = filter.first_match(Route::new(0x14000000, length)?);
-    assert_eq!(rt; at, place);
-    assert!(rt; told.is_alike(action));
+    let route = Route::new(0x14000000, length)?;
+    assert_eq!(rt; filter.first_match(route), (place, action));
     Ok(())
 }
 

@@ -1,12 +1,15 @@
 // Files loaded into a draft: what each fault tells, and that a refused file leaves the draft as it was.
 use crate::families::Filed;
-use crate::writing::is_written;
+use crate::writing::writes;
 use family::Clause;
 use fields::{Fault, Part};
 use filter::{Draft, Sealed};
 use std::process::Abort;
 use std::test::Fail;
-use supplied::{Packet, PrefixRange, RouteAction, RouteWithOrigin, Verdict};
+use supplied::{
+    AddressSpan, AsSpan, Packet, Pair, PortSpan, PrefixRange, ProtocolSpan, RouteAction,
+    RouteWithOrigin, Verdict,
+};
 
 // What a refused load tells.
 #[derive(Clone, Copy, PartialEq, Eq, Debug)]
@@ -64,9 +67,9 @@ fn broken(clause: usize, place: usize, cause: u8) -> Told {
 fn refused<F: Filed>(rt: &(impl Abort + AllocGlobal), file: &[u8], told: Told) -> Result<(), Fail> {
     let mut places = vec![in rt.alloc(); Clause::default(); 3]?;
     let mut draft = Draft::new(&mut places);
-    draft.load(F::code(), F::sample())?;
+    draft.load(F::code(), F::SAMPLE)?;
     assert_eq!(rt; draft.load(F::code(), file).map_err(Told::from), Err(told));
-    is_written::<F>(rt, &draft.seal(), F::sample())
+    writes::<F>(rt, &draft.seal(), F::SAMPLE)
 }
 
 fn refused_heads<F: Filed>(rt: &(impl Abort + AllocGlobal)) -> Result<(), Fail> {
@@ -89,7 +92,7 @@ fn heads(rt: HostRuntime) -> Result<(), Fail> {
 
 // Each beginning of the sample ends early; its clauses end at these places.
 fn cut<F: Filed>(rt: &(impl Abort + AllocGlobal), first: usize, second: usize) -> Result<(), Fail> {
-    let file = F::sample();
+    let file = F::SAMPLE;
     for length in 0..file.len() {
         let part = if length < 2 {
             Part::Head
@@ -122,7 +125,7 @@ fn refused_in<F: Filed>(
     let mut places = vec![in rt.alloc(); Clause::default(); room]?;
     let mut draft = Draft::new(&mut places);
     assert_eq!(rt; draft.load(F::code(), file).map_err(Told::from), Err(told));
-    is_written::<F>(rt, &draft.seal(), &[F::code(), 0, 0])
+    writes::<F>(rt, &draft.seal(), &[F::code(), 0, 0])
 }
 
 fn without_a_place<F: Filed>(rt: &(impl Abort + AllocGlobal)) -> Result<(), Fail> {
@@ -438,19 +441,14 @@ fn spare_bytes(rt: HostRuntime) -> Result<(), Fail> {
 fn fields_left_out_stand_at_their_absent_values(rt: HostRuntime) -> Result<(), Fail> {
     let mut places = [Clause::default(); 3];
     let mut draft = Draft::new(&mut places);
-    draft.load(2, RouteWithOrigin::sample())?;
+    draft.load(2, RouteWithOrigin::SAMPLE)?;
     let filter: Sealed<RouteWithOrigin, RouteAction> = draft.seal();
     let [first, second] = filter.clauses() else {
         return Err(Fail::new("not two clauses"));
     };
-    let range = first.region.first;
-    assert!(rt; range.address() == 0x14000000 && range.length() == 8);
-    assert!(rt; range.low() == 8 && range.high() == 24);
-    let range = second.region.first;
-    assert!(rt; range.address() == 0 && range.length() == 0 && range.low() == 0);
-    assert!(rt; range.high() == 32);
-    let origins = second.region.second;
-    assert!(rt; origins.low() == 0 && origins.high() == 4294967295);
+    assert_eq!(rt; first.region.first, PrefixRange::new(0x14000000, 8, 8, 24)?);
+    assert_eq!(rt; second.region.first, PrefixRange::new(0, 0, 0, 32)?);
+    assert_eq!(rt; second.region.second, AsSpan::new(0, 4294967295)?);
     Ok(())
 }
 
@@ -459,18 +457,26 @@ fn fields_left_out_stand_at_their_absent_values(rt: HostRuntime) -> Result<(), F
 fn ends_have_the_bytes_of_their_kind(rt: HostRuntime) -> Result<(), Fail> {
     let mut places = [Clause::default(); 3];
     let mut draft = Draft::new(&mut places);
-    draft.load(3, Packet::sample())?;
+    draft.load(3, Packet::SAMPLE)?;
     let filter: Sealed<Packet, Verdict> = draft.seal();
     let [first, second] = filter.clauses() else {
         return Err(Fail::new("not two clauses"));
     };
-    let packets = first.region;
-    assert!(rt; packets.first.low() == 0x0a000000 && packets.first.high() == 0x0affffff);
-    assert!(rt; packets.second.first.low() == 6 && packets.second.first.high() == 6);
-    assert!(rt; packets.second.second.low() == 22 && packets.second.second.high() == 22);
-    let packets = second.region;
-    assert!(rt; packets.first.low() == 0 && packets.first.high() == 4294967295);
-    assert!(rt; packets.second.first.low() == 0 && packets.second.first.high() == 17);
-    assert!(rt; packets.second.second.low() == 1024 && packets.second.second.high() == 65535);
+    let expected = Pair {
+        first: AddressSpan::new(0x0a000000, 0x0affffff)?,
+        second: Pair {
+            first: ProtocolSpan::new(6, 6)?,
+            second: PortSpan::new(22, 22)?,
+        },
+    };
+    assert_eq!(rt; first.region, expected);
+    let expected = Pair {
+        first: AddressSpan::new(0, 4294967295)?,
+        second: Pair {
+            first: ProtocolSpan::new(0, 17)?,
+            second: PortSpan::new(1024, 65535)?,
+        },
+    };
+    assert_eq!(rt; second.region, expected);
     Ok(())
 }

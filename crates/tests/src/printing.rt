@@ -11,7 +11,7 @@ fn prints(
     text: &[u8],
 ) -> Result<(), Fail> {
     let told = printed(rt.alloc(), left, right)?;
-    assert!(rt; told.as_slice() == text);
+    assert_eq!(rt; told.as_slice(), text);
     Ok(())
 }
 

@@ -1,7 +1,7 @@
 // Sealed filters written as files: which bytes, into which buffers, and that loading them again gives the same filter.
 use crate::families::Filed;
 use buffers::Output;
-use family::{ActionKind, Clause, Family};
+use family::{Clause, Family};
 use filter::{Draft, Sealed};
 use filterfile::{WriteError, write_file};
 use records::Written;
@@ -18,7 +18,7 @@ fn is_untouched(part: &[u8]) -> bool {
 }
 
 // The filter is written as this file, and no byte behind it is touched.
-pub fn is_written<F: Filed>(
+pub fn writes<F: Filed>(
     rt: &impl Abort,
     filter: &Sealed<F, F::Action>,
     file: &[u8],
@@ -26,13 +26,13 @@ pub fn is_written<F: Filed>(
     let mut out = [0xee; 300];
     let length = filter.write(F::code(), &mut out)?;
     assert!(rt; length < 300);
-    assert!(rt; &out[..length] == file);
+    assert_eq!(rt; &out[..length], file);
     assert!(rt; is_untouched(&out[length..]));
     Ok(())
 }
 
 // A buffer that is a byte shorter than the file is refused and left as it was.
-fn is_too_long<F: Filed>(rt: &impl Abort, filter: &Sealed<F, F::Action>, file: &[u8]) {
+fn refuses_less_room<F: Filed>(rt: &impl Abort, filter: &Sealed<F, F::Action>, file: &[u8]) {
     let mut out = [0xee; 300];
     let short = file.len().saturating_sub(1).min(300);
     let answer = filter.write(F::code(), &mut out[..short]);
@@ -48,23 +48,12 @@ fn just_fits<F: Filed>(
 ) -> Result<(), Fail> {
     let mut out = vec![in rt.alloc(); 0xee; file.len()]?;
     filter.write(F::code(), &mut out)?;
-    assert!(rt; out.as_slice() == file);
+    assert_eq!(rt; out.as_slice(), file);
     Ok(())
 }
 
-// The same regions and actions, clause by clause, and the same default.
-fn are_alike<R: Family, A: ActionKind>(a: &Sealed<R, A>, b: &Sealed<R, A>) -> bool {
-    a.clauses().len() == b.clauses().len()
-        && a.default().is_alike(b.default())
-        && a.clauses().iter().zip(b.clauses()).all(|(c, d)| {
-            c.region.is_inside(d.region)
-                && d.region.is_inside(c.region)
-                && c.action.is_alike(d.action)
-        })
-}
-
 // Written and loaded into other places, it is the same filter.
-fn is_loaded_again<F: Filed>(
+fn loads_again<F: Filed>(
     rt: &(impl Abort + AllocGlobal),
     filter: &Sealed<F, F::Action>,
 ) -> Result<(), Fail> {
@@ -74,7 +63,12 @@ fn is_loaded_again<F: Filed>(
     let mut places = vec![in rt.alloc(); Clause::default(); 65]?;
     let mut draft = Draft::new(&mut places);
     draft.load(F::code(), &out[..length])?;
-    assert!(rt; are_alike(filter, &draft.seal()));
+    let again = draft.seal();
+    assert_eq!(rt; again.default(), filter.default());
+    assert_eq!(rt; again.clauses().len(), filter.clauses().len());
+    for (a, b) in again.clauses().iter().zip(filter.clauses()) {
+        assert_eq!(rt; (a.region, a.action), (b.region, b.action));
+    }
     Ok(())
 }
 
@@ -84,15 +78,15 @@ fn comes_back<F: Filed>(rt: &(impl Abort + AllocGlobal), file: &[u8]) -> Result<
     let mut draft = Draft::new(&mut places);
     draft.load(F::code(), file)?;
     let filter = draft.seal();
-    is_written::<F>(rt, &filter, file)?;
+    writes::<F>(rt, &filter, file)?;
     just_fits::<F>(rt, &filter, file)?;
-    is_too_long::<F>(rt, &filter, file);
-    is_loaded_again::<F>(rt, &filter)
+    refuses_less_room::<F>(rt, &filter, file);
+    loads_again::<F>(rt, &filter)
 }
 
 fn sample_comes_back<F: Filed>(rt: &(impl Abort + AllocGlobal)) -> Result<(), Fail> {
     let code = F::code();
-    comes_back::<F>(rt, F::sample())?;
+    comes_back::<F>(rt, F::SAMPLE)?;
     comes_back::<F>(rt, &[code, 0, 0])?;
     comes_back::<F>(rt, &[code, 0, 1])
 }
@@ -152,38 +146,38 @@ fn ends_at_each_other_s_absent_value_come_back(rt: HostRuntime) -> Result<(), Fa
 }
 
 // The region is written as this record.
-fn is_record(rt: &impl Abort, region: impl Written, record: &[u8]) {
+fn writes_record(rt: &impl Abort, region: impl Written, record: &[u8]) {
     let mut out = [0xee; 20];
     let mut output = Output::new(&mut out);
     region.write(&mut output);
     let n = output.len();
     assert!(rt; n < 20);
-    assert!(rt; &out[..n] == record);
-    assert!(rt; out[n] == 0xee);
+    assert_eq!(rt; &out[..n], record);
+    assert_eq!(rt; out[n], 0xee);
 }
 
 #[test]
 fn records_of_prefix_ranges(rt: HostRuntime) -> Result<(), Fail> {
-    is_record(&rt, PrefixRange::new(0, 0, 0, 0)?, b"\x00");
-    is_record(&rt, PrefixRange::new(0, 0, 0, 32)?, b"\x08\x20");
-    is_record(&rt, PrefixRange::new(0, 0, 1, 1)?, b"\x04\x01");
-    is_record(&rt, PrefixRange::new(0, 1, 1, 1)?, b"\x02\x01");
-    is_record(
+    writes_record(&rt, PrefixRange::new(0, 0, 0, 0)?, b"\x00");
+    writes_record(&rt, PrefixRange::new(0, 0, 0, 32)?, b"\x08\x20");
+    writes_record(&rt, PrefixRange::new(0, 0, 1, 1)?, b"\x04\x01");
+    writes_record(&rt, PrefixRange::new(0, 1, 1, 1)?, b"\x02\x01");
+    writes_record(
         &rt,
         PrefixRange::new(0x80000000, 1, 1, 1)?,
         b"\x03\x80\x00\x00\x00\x01",
     );
-    is_record(
+    writes_record(
         &rt,
         PrefixRange::new(0x14000000, 8, 8, 24)?,
         b"\x0b\x14\x00\x00\x00\x08\x18",
     );
-    is_record(
+    writes_record(
         &rt,
         PrefixRange::new(0x1e000000, 8, 16, 32)?,
         b"\x0f\x1e\x00\x00\x00\x08\x10\x20",
     );
-    is_record(
+    writes_record(
         &rt,
         PrefixRange::new(0x0a010203, 32, 32, 32)?,
         b"\x03\x0a\x01\x02\x03\x20",
@@ -193,27 +187,27 @@ fn records_of_prefix_ranges(rt: HostRuntime) -> Result<(), Fail> {
 
 #[test]
 fn records_of_spans(rt: HostRuntime) -> Result<(), Fail> {
-    is_record(&rt, ProtocolSpan::new(0, 255)?, b"\x00");
-    is_record(&rt, ProtocolSpan::new(6, 255)?, b"\x01\x06");
-    is_record(&rt, ProtocolSpan::new(0, 17)?, b"\x02\x11");
-    is_record(&rt, ProtocolSpan::new(6, 17)?, b"\x03\x06\x11");
-    is_record(&rt, PortSpan::new(0, 65535)?, b"\x00");
-    is_record(&rt, PortSpan::new(1024, 65535)?, b"\x01\x04\x00");
-    is_record(&rt, PortSpan::new(0, 1023)?, b"\x02\x03\xff");
-    is_record(&rt, PortSpan::new(80, 443)?, b"\x03\x00\x50\x01\xbb");
-    is_record(&rt, AsSpan::new(0, 4294967295)?, b"\x00");
-    is_record(
+    writes_record(&rt, ProtocolSpan::new(0, 255)?, b"\x00");
+    writes_record(&rt, ProtocolSpan::new(6, 255)?, b"\x01\x06");
+    writes_record(&rt, ProtocolSpan::new(0, 17)?, b"\x02\x11");
+    writes_record(&rt, ProtocolSpan::new(6, 17)?, b"\x03\x06\x11");
+    writes_record(&rt, PortSpan::new(0, 65535)?, b"\x00");
+    writes_record(&rt, PortSpan::new(1024, 65535)?, b"\x01\x04\x00");
+    writes_record(&rt, PortSpan::new(0, 1023)?, b"\x02\x03\xff");
+    writes_record(&rt, PortSpan::new(80, 443)?, b"\x03\x00\x50\x01\xbb");
+    writes_record(&rt, AsSpan::new(0, 4294967295)?, b"\x00");
+    writes_record(
         &rt,
         AsSpan::new(65000, 4294967295)?,
         b"\x01\x00\x00\xfd\xe8",
     );
-    is_record(&rt, AsSpan::new(0, 65535)?, b"\x02\x00\x00\xff\xff");
-    is_record(
+    writes_record(&rt, AsSpan::new(0, 65535)?, b"\x02\x00\x00\xff\xff");
+    writes_record(
         &rt,
         AsSpan::new(64512, 65534)?,
         b"\x03\x00\x00\xfc\x00\x00\x00\xff\xfe",
     );
-    is_record(
+    writes_record(
         &rt,
         AddressSpan::new(1, 4294967294)?,
         b"\x03\x00\x00\x00\x01\xff\xff\xff\xfe",
@@ -223,13 +217,13 @@ fn records_of_spans(rt: HostRuntime) -> Result<(), Fail> {
 
 #[test]
 fn records_of_pairs(rt: HostRuntime) -> Result<(), Fail> {
-    is_record(&rt, RouteWithOrigin::whole_region(), b"\x08\x20\x00");
-    is_record(&rt, Packet::whole_region(), b"\x00\x00\x00");
+    writes_record(&rt, RouteWithOrigin::whole_region(), b"\x08\x20\x00");
+    writes_record(&rt, Packet::whole_region(), b"\x00\x00\x00");
     let pair = Pair {
         first: PrefixRange::new(0x14000000, 8, 8, 24)?,
         second: AsSpan::new(0, 64511)?,
     };
-    is_record(
+    writes_record(
         &rt,
         pair,
         b"\x0b\x14\x00\x00\x00\x08\x18\x02\x00\x00\xfb\xff",
@@ -248,7 +242,7 @@ fn an_edited_filter_is_written(rt: HostRuntime) -> Result<(), Fail> {
     let mut places = [Clause::default(); 2];
     let mut draft = Draft::new(&mut places);
     draft.insert(0, Clause { region, action })?;
-    is_written(
+    writes(
         &rt,
         &draft.seal(),
         b"\x01\x01\x0b\x14\x00\x00\x00\x08\x18\x05\x00\x00\x00\x07\x00",
@@ -258,8 +252,8 @@ fn an_edited_filter_is_written(rt: HostRuntime) -> Result<(), Fail> {
 // The sealed filter of memory without a place is empty, and rejects.
 #[test]
 fn memory_without_a_place_is_written(rt: HostRuntime) -> Result<(), Fail> {
-    is_written::<PrefixRange>(&rt, &Draft::new(&mut []).seal(), b"\x01\x00\x00")?;
-    is_written::<Packet>(&rt, &Draft::new(&mut []).seal(), b"\x03\x00\x00")
+    writes::<PrefixRange>(&rt, &Draft::new(&mut []).seal(), b"\x01\x00\x00")?;
+    writes::<Packet>(&rt, &Draft::new(&mut []).seal(), b"\x03\x00\x00")
 }
 
 // More clauses than a file has are refused before the buffer is looked at.
