@@ -15,7 +15,7 @@ pub struct Tally {
     pub rows: usize,
 }
 
-// Two filters, and the seed that they are drawn with.
+// Two filters, as drawn, and which draw they are of.
 #[derive(Drop)]
 struct Trial<R, A> {
     seed: u64,
