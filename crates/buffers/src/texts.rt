@@ -6,7 +6,8 @@ ghost use Rattle.buffers.specs.Outputs.{Puts};
 use crate::outputs::Output;
 use std::alloc::{AllocError, Global};
 
-// A value that has a text.
+// A value that has a text. Not Display: the clause of an impl Display speaks of Ok alone, and a body that only fails
+// would meet it.
 pub trait Text {
     ghost text: { Self → List ℕ };
 

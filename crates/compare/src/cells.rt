@@ -131,6 +131,7 @@ impl<'a, R: Family> RegionList<'a, R> {
                     ensures { result ≡ reaches_by R.shifted (region_at R.whole self.entry.now.regions.now) (in_cell R.holds (region_at R.whole self.entry.now.regions.now) cell.entry.now) cell.entry.now (left - 1) axis point number.now }
                 {
                     let region = self.region(*number);
+                    // Near, then far: an `any` over both edges would be one more closure with its clauses written out.
                     self.is_reached(
                         cell,
                         left - 1,

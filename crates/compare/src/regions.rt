@@ -14,6 +14,7 @@ struct Growing<'a, R> {
     ghost fits: { count ≤ length places.now },
 }
 
+// A Family has no `==`: two regions are the same where each is inside the other.
 fn same_region<R: Family>(a: R, b: R) -> bool
     ensures { result ≡ same R.inside a b }
 {

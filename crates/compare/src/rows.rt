@@ -10,7 +10,8 @@ use crate::cells::{MOST_REGIONS, RegionList};
 use family::{ActionKind, Family};
 use filter::{Sealed, insert_at};
 
-// A row: the two deciding places, the region's number, and where its holes stand and how many they are.
+// A row: the two deciding places, the region's number, and where its holes stand and how many they are. A place that is
+// the number of clauses is the default's, a rule of the project; no Range for the holes, since a Range is not Copy.
 #[derive(Clone, Copy, PartialEq, Eq, Debug, Default)]
 pub struct Row {
     pub left: usize,
@@ -141,6 +142,7 @@ impl<'a, R: Family> RegionList<'a, R> {
     }
 
     // Writes a region's holes from a place on, and answers the place behind them: there the next row's begin.
+    // Only these two functions hand buffer and place on; a struct of both would be no plainer.
     fn copy_holes(&self, region: R, holes: &mut [usize], at: usize) -> usize
         requires { at + length (holes_of R.inside R.whole self.now.regions.now region) ≤ length holes.old }
         ensures { Written holes.old (take at holes.old ++ holes_of R.inside R.whole self.now.regions.now region) (Some result) holes.new }

@@ -80,7 +80,7 @@ impl RecordFault {
 }
 
 impl Fault {
-    // A variant that holds a value has no discriminant, so the numbers stand in a match.
+    // Beside a variant that holds a value no variant has a discriminant, so the numbers stand in a match.
     pub fn number(self) -> u8
         ensures { result ≡ fault_number self.kind }
     {

@@ -13,7 +13,7 @@ pub trait Layout: Copy {
 
     ghost layout: { LayoutOf Self Self.Made };
 
-    // The numbers of a record without fields.
+    // The numbers of a record without fields. Not Default: each kind would owe a law that its default is these.
     fn absent() -> Self
         ensures { result ≡ layout.absent };
 

@@ -10,6 +10,7 @@ use crate::regions::put_region;
 use buffers::Output;
 use compare::Row;
 
+// The place behind the clauses is the default's, a rule of the project.
 fn put_place(out: &mut Output, clauses: usize, place: usize)
     ensures { Puts out.old (place_text clauses place) out.new }
 {

@@ -6,6 +6,7 @@ use crate::octets::put_octet;
 use buffers::Output;
 use supplied::PrefixRange;
 
+// Octet by octet, as the definition has it: in a loop the first, with no dot before it, would stand apart.
 fn put_address(out: &mut Output, address: u32)
     ensures { Puts out.old (address_text address) out.new }
 {

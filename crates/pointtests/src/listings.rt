@@ -56,14 +56,10 @@ impl<R: Family> Listing<R> {
 
     // Whether the rows stand in order, and their holes one row after the other in all places.
     pub fn rows_are_in_order(&self) -> bool {
-        let mut start: usize = 0;
-        for row in &self.rows {
-            if row.start != start {
-                return false;
-            }
-            start = start.saturating_add(row.number);
-        }
-        start == self.holes.len() && self.rows.is_sorted_by(|a, b| order(a) < order(b))
+        let end = self.rows.iter().try_fold(0, |start: usize, row| {
+            (row.start == start).then_some(start.saturating_add(row.number))
+        });
+        end == Some(self.holes.len()) && self.rows.is_sorted_by(|a, b| order(a) < order(b))
     }
 }
 

@@ -67,7 +67,7 @@ impl Layout for ActionNumbers {
     }
 }
 
-// The bit of a map for a number that may be absent.
+// The bit of a map for a number that may be absent. Not given_bit: here no number stands for what is absent.
 fn number_bit(number: Option<u32>) -> u8
     ensures { result ≡ number_bit number }
 {

@@ -39,6 +39,7 @@ impl<const TOP: u32> Number for End<TOP> {
         Ok((End(word), rest))
     }
 
+    // Cut to the width: an End may hold any number, and bytes_of cuts one that its width does not hold.
     fn put(self, out: &mut Output) {
         if TOP < 256 {
             ((self.0 % 256) as u8).put(out);

@@ -11,6 +11,7 @@ impl<'a> Output<'a> {
     {
         let place = self.place;
         self.place = place.saturating_add(1);
+        // By its index: after `get_mut` of a slice a proof knows its length and no element.
         if place < self.bytes.len() {
             self.bytes[place] = byte;
         }
