@@ -1,5 +1,5 @@
 -- Texts put into a buffer, one behind the other.
-use Rattle.std.proofs.Common.{◌≡◌, ℕ, suc, ◌+◌, ◌^◌, ◌<◌, ◌≤◌, List, [], ◌∷◌, ◌++◌, length, take, drop, set, Some, sym, refl, ap, ◌∙◌, inl, inr, add-zero, arith, length-append}
+use Rattle.std.proofs.Common.{◌≡◌, ℕ, suc, ◌+◌, ◌^◌, ◌<◌, ◌≤◌, List, [], ◌∷◌, ◌++◌, length, take, drop, set, Some, sym, refl, ap, ◌∙◌, subst, inl, inr, add-zero, arith, length-append}
 use Rattle.std.proofs.lemmas.List.{append_assoc, append-nil, drop_all, length_push, set_at, set_past, take_at}
 use Rattle.std.proofs.lemmas.Bool.{cases_lt, le-leb}
 use Rattle.buffers.specs.Buffers.{Placed, over, capped, written, written_length}
@@ -24,6 +24,12 @@ over-capped o n t h =
       | inr g ↦ over-past o (capped n) t (omega arith) ∙ sym (over-past o n t (omega arith))
     ]
 
+pub placed_nothing : (o : List ℕ) (at : ℕ) → length o < 2 ^ 64 → at < 2 ^ 64 → Placed o at [] at o
+placed_nothing o at h k = record { small = h; ends = omega arith; bytes = refl }
+
+pub placed_byte : {o o' : List ℕ} {at at' b : ℕ} → length o < 2 ^ 64 → at' ≡ capped (at + 1) → o' ≡ set o at b → Placed o at (b ∷ []) at' o'
+placed_byte h e w = record { small = h; ends = e; bytes = w }
+
 -- two texts put one behind the other
 infixl 60 ◌then◌
 pub ◌then◌ : {o o' o'' : List ℕ} {at at' at'' : ℕ} {s t : List ℕ} → Placed o at s at' o' → Placed o' at' t at'' o'' → Placed o at (s ++ t) at'' o''
@@ -33,6 +39,10 @@ pub ◌then◌ : {o o' o'' : List ℕ} {at at' at'' : ℕ} {s t : List ℕ} → 
       ends = simp length-append (omega (arith, p.ends, q.ends));
       bytes = q.bytes ∙ rw (p.ends, over-capped o' (at + length s) t q.small, p.bytes) (over_both o at s t);
     }
+
+-- equal texts
+pub placed_same : {o o' : List ℕ} {at at' : ℕ} {s t : List ℕ} → s ≡ t → Placed o at s at' o' → Placed o at t at' o'
+placed_same {o} {o'} {at} {at'} e p = subst (λ x. Placed o at x at' o') e p
 
 -- a text behind others, in a buffer that holds it whole
 over_behind : (p o s : List ℕ) → length s ≤ length o → over (p ++ o) (length p) s ≡ p ++ (s ++ drop (length s) o)

@@ -13,10 +13,10 @@ module _ {R A : Type 0} (inside : R → R → Bool) (meet : R → R → Option R
   abbrev with_whole : List R
   with_whole = whole ∷ []
 
-  abbrev with_left : List R
+  abbrev pub with_left : List R
   with_left = put_clauses inside left with_whole
 
-  abbrev with_both : List R
+  abbrev pub with_both : List R
   with_both = put_clauses inside right with_left
 
   abbrev with_meets : List R

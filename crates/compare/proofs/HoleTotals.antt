@@ -1,17 +1,21 @@
 -- How many holes the rows have together: as many as their holes laid one row after the other.
-use Rattle.std.proofs.Common.{◌≡◌, ℕ, ◌+◌, ◌<◌, Bool, true, false, cond, List, [], ◌∷◌, ◌++◌, length, take, drop, Some, None, fold, sum_by, Option, refl, subst, arith, length-append}
+use Rattle.std.proofs.Common.{◌≡◌, ℕ, suc, ◌+◌, ◌<◌, ◌≤◌, Bool, true, false, cond, List, [], ◌∷◌, ◌++◌, length, take, drop, Some, None, fold, sum_by, Option, refl, ap, subst, arith, length-append}
 use Rattle.std.specs.List.{AllByRecursion}
-use Rattle.std.proofs.ByRecursion.{All-take, All-drop, All-append}
-use Rattle.std.proofs.lemmas.List.Sums.{sum_by-cons}
+use Rattle.std.proofs.ByRecursion.{All-take, All-drop, All-append, All-weaker}
+use Rattle.std.proofs.lemmas.List.Sums.{sum_by-cons, length-filter, count_by-le-length}
 use Rattle.family.specs.Lists.{first_where}
 use Rattle.family.specs.declared.clauses.Clause.{Clause}
 use Rattle.family.specs.declared.edges.Edge.{Edge}
 use Rattle.compare.specs.declared.rows.Row.{Row}
-use Rattle.compare.specs.Cells.{region_at, numbers, holes_of, occupied}
+use Rattle.compare.specs.Cells.{region_at, numbers, holes_of, nested, topmost, below, occupied}
 use Rattle.compare.specs.Rows.{precedes, ranked, ranked_some, laid, alike_at, row_for, row_at, rows_found, add_holes, holes_of_rows}
 use Rattle.compare.proofs.LaidOut.{hole_count}
 use Rattle.compare.proofs.Members.{numbers-within}
 use Rattle.compare.proofs.Placed.{folded_keeps}
+
+pub length-numbers : {X : Type 0} (i : ℕ) (xs : List X) → length (numbers i xs) ≡ length xs
+length-numbers i [] = refl
+length-numbers i (x ∷ xs) = ap suc (length-numbers (suc i) xs)
 
 -- what holds of each row where it is put
 pub ranked-all : (P : Row → Type 0) (rows : List Row) (row : Row) → AllByRecursion P rows → P row → AllByRecursion P (ranked rows row)
@@ -30,9 +34,20 @@ some-ranked P rows None all one = all
 some-ranked P rows (Some row) all one = ranked-all P rows row all (one row refl)
 
 module _ {R : Type 0} (inside : R → R → Bool) (whole : R) (xs : List R) where
+  -- a region has no more holes than there are listed regions
+  pub holes-within : (r : R) → length (holes_of inside whole xs r) ≤ length xs
+  holes-within r =
+      let near = nested inside whole xs r in
+      let top = topmost inside (region_at whole xs) near in
+      let under = below inside (region_at whole xs) r in
+      omega (arith, length-filter top near, count_by-le-length top near, length-filter under (numbers 0 xs), count_by-le-length under (numbers 0 xs), length-numbers 0 xs)
+
   -- a row's number is the number of its region's holes
   abbrev pub Counted : Row → Type 0
   Counted row = row.number ≡ length (holes_of inside whole xs (region_at whole xs row.region))
+
+  pub counted-within : (row : Row) → Counted row → row.number ≤ length xs
+  counted-within row e = omega (arith, e, holes-within (region_at whole xs row.region))
 
   holes_after : (so_far : List ℕ) (rows : List Row) → AllByRecursion Counted rows → length (fold (add_holes inside whole xs) so_far rows) ≡ length so_far + sum_by hole_count rows
   holes_after so_far [] all = omega arith
@@ -80,6 +95,9 @@ module _ {R P A : Type 0} (whole : R) (first : P) (axes : ℕ) (holds : R → P 
 
   pub found-counted : AllByRecursion (Counted inside whole xs) found
   found-counted = found_all (Counted inside whole xs) row_counted
+
+  pub found_within : AllByRecursion (λ row. row.number ≤ length xs) found
+  found_within = All-weaker (Counted inside whole xs) (λ row. row.number ≤ length xs) (counted-within inside whole xs) found found-counted
 
   -- the rows' holes counted together
   pub found_total : sum_by hole_count found ≡ length (holes_of_rows inside whole xs found)

@@ -9,7 +9,7 @@ use Rattle.compare.specs.Cells.{in_cell, reaches, reaches_by, cornered, occupied
 
 module _ {R P : Type 0} (shifted : P → ℕ → Edge → R → P) (at : ℕ → R) (test : P → Bool) (ns : List ℕ) where
   -- no shift along the first axis, or one to an edge
-  reaches_by_first : (n axis : ℕ) (p : P) → 0 < n → reaches shifted at test ns n axis p ≡ (reaches shifted at test ns (n - 1) (axis + 1) p || list_any (reaches_by shifted at test ns (n - 1) axis p) ns)
+  pub reaches_by_first : (n axis : ℕ) (p : P) → 0 < n → reaches shifted at test ns n axis p ≡ (reaches shifted at test ns (n - 1) (axis + 1) p || list_any (reaches_by shifted at test ns (n - 1) axis p) ns)
   reaches_by_first zero axis p h = absurd (omega arith)
   reaches_by_first (suc m) axis p h =
       let back : m ≡ suc m - 1 = omega arith in

@@ -39,7 +39,7 @@ module _ {R A : Type 0} (reject : A) (places : List (Clause R A)) where
       let all : min n (usable_places (length (front ++ behind))) ≡ n = omega arith in
       same_view (ap (λ k. take k (front ++ behind)) all ∙ take_at front behind n size) same long
 
-  redefaulted : (whole : R) (count : ℕ) (action : A) → 0 < length places → view_of reject (with_default whole places action) count ≡ record { clauses = clauses_in places count; default = action; room = length places }
+  pub redefaulted : (whole : R) (count : ℕ) (action : A) → 0 < length places → view_of reject (with_default whole places action) count ≡ record { clauses = clauses_in places count; default = action; room = length places }
   redefaulted whole count action some =
       let put : Clause R A = record { region = whole; action = action } in
       let last = length places - 1 in

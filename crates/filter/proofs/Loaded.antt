@@ -10,7 +10,7 @@ use Rattle.filter.specs.Views.{view_of, with_default, loaded_view}
 use Rattle.filter.proofs.Viewed.{refilled}
 
 module _ {R A : Type 0} (region_of : List ℕ → Read R) (action_of : List ℕ → Read A) (code memory : ℕ) (bytes : List ℕ) (clauses : List (Clause R A)) (action : A) where
-  file-fits : file_of region_of action_of code memory bytes ≡ Ok (clauses, action) → (0 < memory) × (length clauses ≤ usable_places memory)
+  pub file-fits : file_of region_of action_of code memory bytes ≡ Ok (clauses, action) → (0 < memory) × (length clauses ≤ usable_places memory)
   file-fits read =
       let file = accepted_if_read region_of action_of code memory bytes clauses action read in
       let limit = file.limit in
@@ -18,7 +18,7 @@ module _ {R A : Type 0} (region_of : List ℕ → Read R) (action_of : List ℕ 
       (omega arith, omega arith)
 
 -- a file by what reading it answered
-file-read : {C A : Type 0} (r : Result (List C × A) Fault) (p : ℕ × A) → answer_of r ≡ Ok p → (clauses : List C) × (r ≡ Ok (clauses, p.1)) × (length clauses ≡ p.0)
+pub file-read : {C A : Type 0} (r : Result (List C × A) Fault) (p : ℕ × A) → answer_of r ≡ Ok p → (clauses : List C) × (r ≡ Ok (clauses, p.1)) × (length clauses ≡ p.0)
 file-read {C} {A} (Ok q) p e =
     let told : ℕ × A = (length q.0, q.1) in
     let same = same-value told p e in

@@ -1,6 +1,6 @@
 -- When two route actions are alike: where they are the same.
 use Rattle.std.specs.Prelude.{◌≡◌, ℕ, Bool, true, false, ◌&&◌, Some, None, Option, ◌==◌, refl}
-use Rattle.std.proofs.Common.{ap, subst}
+use Rattle.std.proofs.Common.{ap}
 use Rattle.std.proofs.lemmas.Bool.{eqb-true, eq-eqb, and_parts, and_from}
 use Rattle.family.specs.Actions.{ActionLaws}
 use Rattle.supplied.specs.declared.actions.RouteAction.{RouteAction}
@@ -28,9 +28,11 @@ number_equal (Some a) None h = cc
 number_equal None (Some b) h = cc
 number_equal None None h = refl
 
-number_same : (a : Option ℕ) → same_number a a ≡ true
-number_same (Some a) = eq-eqb a a refl
-number_same None = refl
+number_same : (a b : Option ℕ) → a ≡ b → same_number a b ≡ true
+number_same (Some a) (Some b) h = eq-eqb a b (cc)
+number_same (Some a) None h = cc
+number_same None (Some b) h = cc
+number_same None None h = refl
 
 action_equal : (a b : RouteAction) → same_action a b ≡ true → a ≡ b
 action_equal Reject Reject h = refl
@@ -40,9 +42,12 @@ action_equal (Accept p m) (Accept q n) h =
     let parts = and_parts (same_number p q) (same_number m n) h in
     cc (number_equal p q parts.0, number_equal m n parts.1)
 
-action_same : (a : RouteAction) → same_action a a ≡ true
-action_same Reject = refl
-action_same (Accept p m) = and_from (same_number p p) (same_number m m) (number_same p) (number_same m)
+action_same : (a b : RouteAction) → a ≡ b → same_action a b ≡ true
+action_same Reject Reject h = refl
+action_same Reject (Accept q n) h = cc
+action_same (Accept p m) Reject h = cc
+action_same (Accept p m) (Accept q n) h =
+    and_from (same_number p q) (same_number m n) (number_same p q (cc)) (number_same m n (cc))
 
 pub route_action_laws : ActionLaws (λ (a : RouteAction). a) same_action
-route_action_laws = record { equal_effects = action_equal; alike_when_equal = λ a b e. subst (λ (c : RouteAction). same_action a c ≡ true) e (action_same a) }
+route_action_laws = record { equal_effects = action_equal; alike_when_equal = action_same }

@@ -1,6 +1,6 @@
 -- Spans of the numbers up to a top: which they hold, when one is inside another, their meet and shifts.
 use Rattle.std.specs.Prelude.{◌≡◌, ℕ, ◌+◌, ◌≤◌, min, max, Bool, true, cond, ◌&&◌, Option, ◌==◌, nat_le}
-use Rattle.std.proofs.Common.{arith}
+use Rattle.std.proofs.Common.{sym, subst, arith}
 use mathlib.Core.HLevel.{is_prop→PathP}
 use Rattle.std.proofs.Math.Bridge.{le_prop}
 use Rattle.std.proofs.lemmas.Bool.{leb-true}
@@ -60,3 +60,7 @@ module _ (TOP : ℕ) where
   abbrev pub span_shifted : SpanPoint TOP → ℕ → Edge → Span TOP → SpanPoint TOP
   span_shifted p axis e r =
       cond (axis == 1) (record { value = shifted_number r e p.value; top = number_below r e p }) p
+
+  pub at_edge : (p q : SpanPoint TOP) (axis : ℕ) (e : Edge) (r : Span TOP) → axis ≡ 1 → q.value ≡ shifted_number r e p.value → q ≡ span_shifted p axis e r
+  at_edge p q axis e r is_one v =
+      subst (λ (a : ℕ). q ≡ span_shifted p a e r) (sym is_one) (same_span_point q (span_shifted p 1 e r) v)

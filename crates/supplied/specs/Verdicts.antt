@@ -1,6 +1,5 @@
 -- When two verdicts are alike: where they are the same.
 use Rattle.std.specs.Prelude.{◌≡◌, Bool, true, false, refl}
-use Rattle.std.proofs.Common.{subst}
 use Rattle.family.specs.Actions.{ActionLaws}
 use Rattle.supplied.specs.declared.actions.Verdict.{Verdict}
 use Rattle.supplied.specs.declared.actions.Verdict.TheVariants.{Reject, Accept}
@@ -20,9 +19,11 @@ verdict_equal Reject Accept h = cc
 verdict_equal Accept Reject h = cc
 verdict_equal Accept Accept h = refl
 
-verdict_same : (a : Verdict) → same_verdict a a ≡ true
-verdict_same Reject = refl
-verdict_same Accept = refl
+verdict_same : (a b : Verdict) → a ≡ b → same_verdict a b ≡ true
+verdict_same Reject Reject h = refl
+verdict_same Reject Accept h = cc
+verdict_same Accept Reject h = cc
+verdict_same Accept Accept h = refl
 
 pub verdict_laws : ActionLaws (λ (a : Verdict). a) same_verdict
-verdict_laws = record { equal_effects = verdict_equal; alike_when_equal = λ a b e. subst (λ (c : Verdict). same_verdict a c ≡ true) e (verdict_same a) }
+verdict_laws = record { equal_effects = verdict_equal; alike_when_equal = verdict_same }

@@ -85,8 +85,10 @@ fn packets(
 
 #[test]
 fn packets_over_three_axes(rt: HostRuntime) -> Result<(), Fail> {
-    let mut left_places = [Clause::default(); 3];
-    let mut right_places = [Clause::default(); 4];
+    // Every place accepts before the drafts are made, so that a default that is not written shows.
+    let place = packets(0, 9, 0, 9)?;
+    let mut left_places = [place; 3];
+    let mut right_places = [place; 4];
     let mut left = Draft::new(&mut left_places);
     let mut right = Draft::new(&mut right_places);
     // One block of addresses and ports against the same block in two halves and one packet more.

@@ -6,10 +6,7 @@ use fields::{Fault, Part};
 use filter::{Draft, Sealed};
 use std::process::Abort;
 use std::test::Fail;
-use supplied::{
-    AddressSpan, AsSpan, Packet, Pair, PortSpan, PrefixRange, ProtocolSpan, RouteAction,
-    RouteWithOrigin, Verdict,
-};
+use supplied::{Packet, Pair, PrefixRange, RouteAction, RouteWithOrigin, Verdict};
 
 // What a refused load tells.
 #[derive(Clone, Copy, PartialEq, Eq, Debug)]
@@ -446,9 +443,14 @@ fn fields_left_out_stand_at_their_absent_values(rt: HostRuntime) -> Result<(), F
     let [first, second] = filter.clauses() else {
         return Err(Fail::new("not two clauses"));
     };
-    assert_eq!(rt; first.region.first, PrefixRange::new(0x14000000, 8, 8, 24)?);
-    assert_eq!(rt; second.region.first, PrefixRange::new(0, 0, 0, 32)?);
-    assert_eq!(rt; second.region.second, AsSpan::new(0, 4294967295)?);
+    let range = first.region.first;
+    assert_eq!(rt; (range.address(), range.length()), (0x14000000, 8));
+    assert_eq!(rt; (range.low(), range.high()), (8, 24));
+    let range = second.region.first;
+    assert_eq!(rt; (range.address(), range.length()), (0, 0));
+    assert_eq!(rt; (range.low(), range.high()), (0, 32));
+    let origins = second.region.second;
+    assert_eq!(rt; (origins.low(), origins.high()), (0, 4294967295));
     Ok(())
 }
 
@@ -462,21 +464,22 @@ fn ends_have_the_bytes_of_their_kind(rt: HostRuntime) -> Result<(), Fail> {
     let [first, second] = filter.clauses() else {
         return Err(Fail::new("not two clauses"));
     };
-    let expected = Pair {
-        first: AddressSpan::new(0x0a000000, 0x0affffff)?,
-        second: Pair {
-            first: ProtocolSpan::new(6, 6)?,
-            second: PortSpan::new(22, 22)?,
-        },
-    };
-    assert_eq!(rt; first.region, expected);
-    let expected = Pair {
-        first: AddressSpan::new(0, 4294967295)?,
-        second: Pair {
-            first: ProtocolSpan::new(0, 17)?,
-            second: PortSpan::new(1024, 65535)?,
-        },
-    };
-    assert_eq!(rt; second.region, expected);
+    let Pair {
+        first: addresses,
+        second: ends,
+    } = first.region;
+    assert_eq!(rt;
+        (addresses.low(), addresses.high()),
+        (0x0a000000, 0x0affffff)
+    );
+    assert_eq!(rt; (ends.first.low(), ends.first.high()), (6, 6));
+    assert_eq!(rt; (ends.second.low(), ends.second.high()), (22, 22));
+    let Pair {
+        first: addresses,
+        second: ends,
+    } = second.region;
+    assert_eq!(rt; (addresses.low(), addresses.high()), (0, 4294967295));
+    assert_eq!(rt; (ends.first.low(), ends.first.high()), (0, 17));
+    assert_eq!(rt; (ends.second.low(), ends.second.high()), (1024, 65535));
     Ok(())
 }
